@@ -1,0 +1,30 @@
+-- What a call answers, and what becomes of the channel's place. Document 01, 'The four channel events' and 'Numbers the box may answer with'.
+use Prim.Native.Nat.{ℕ}
+use mathlib.Core.List.{List, []}
+use Rattle.larq.specs.Channel.{Channel}
+
+-- the number, handles handed up, handles returned, numbers to be asked for again, and how many were given up in this call
+pub record Answer (H : Type 0) : Type 0 where
+  pub number : ℕ
+  pub up : List H
+  pub returned : List H
+  pub nack : List ℕ
+  pub lost : ℕ
+
+-- the place is as it was; it holds this record; it is free
+pub data Change (H : Type 0) : Type 0 where
+  same : Change H
+  holds : Channel H → Change H
+  freed : Change H
+
+pub record Outcome (H : Type 0) : Type 0 where
+  pub answer : Answer H
+  pub change : Change H
+
+-- a refusal: its number, all counts 0, nothing changed
+abbrev pub refused : {H : Type 0} → ℕ → Outcome H
+refused n = record { answer = record { number = n; up = []; returned = []; nack = []; lost = 0 }; change = same }
+
+abbrev pub accepted : {H : Type 0} → List H → List H → List ℕ → ℕ → Change H → Outcome H
+accepted up returned nack lost change =
+    record { answer = record { number = 0; up = up; returned = returned; nack = nack; lost = lost }; change = change }

@@ -1,0 +1,56 @@
+-- A channel's record, and when it is broken. Document 01, 'The channel table'; 001, 6.6.2.1.
+-- H is the type of handles: the rules only pass them on, so they hold for handles of any type.
+use Prim.Native.Nat.{ℕ, _*_}
+use mathlib.Core.Bool.{Bool, true, false, _&&_}
+use mathlib.Core.List.{List, [], _∷_}
+use lib.ListN.{length}
+use lib.Dec.{leb}
+
+-- the waiting window, the house's choice
+abbrev pub window : ℕ
+window = 32
+
+-- the reach is twice the window w
+abbrev pub reach : ℕ → ℕ
+reach w = 2 * w
+
+-- a number from M to C: it waits, with its handle, or is missing, since the time it was first known missing
+pub data Cell (H : Type 0) : Type 0 where
+  waits : H → Cell H
+  missing : ℕ → Cell H
+
+-- C, M, the latest time taken, and a cell for each number from M to C: the span is their count
+pub record Channel (H : Type 0) : Type 0 where
+  pub current : ℕ
+  pub oldest : ℕ
+  pub latest : ℕ
+  pub cells : List (Cell H)
+
+-- the waiting handles, in sequence order
+abbrev pub waiting : {H : Type 0} → List (Cell H) → List H
+waiting [] = []
+waiting (waits h ∷ cs) = h ∷ waiting cs
+waiting (missing t ∷ cs) = waiting cs
+
+-- the times of the missing numbers, in sequence order
+abbrev pub times : {H : Type 0} → List (Cell H) → List ℕ
+times [] = []
+times (waits h ∷ cs) = times cs
+times (missing t ∷ cs) = t ∷ times cs
+
+-- times that do not fall, from lo on, and of which none is later than hi
+abbrev pub orderly : ℕ → ℕ → List ℕ → Bool
+orderly lo hi [] = true
+orderly lo hi (t ∷ ts) = leb lo t && (leb t hi && orderly t hi ts)
+
+-- M is missing, or the span is 0
+abbrev pub headMissing : {H : Type 0} → List (Cell H) → Bool
+headMissing [] = true
+headMissing (waits h ∷ cs) = false
+headMissing (missing t ∷ cs) = true
+
+-- a record that is not broken, by the window w
+unfoldable pub sound : {H : Type 0} → ℕ → Channel H → Bool
+sound w c =
+    leb (c .current) 4095
+    && (leb (c .oldest) 4095 && (leb (length (c .cells)) w && (headMissing (c .cells) && orderly 0 (c .latest) (times (c .cells)))))

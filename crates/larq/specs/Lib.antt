@@ -1,0 +1,6 @@
+pub mod Channel
+pub mod Settling
+pub mod Answer
+pub mod Events
+pub mod Table
+pub mod Run

@@ -1,0 +1,23 @@
+// The rules of the LARQ receiver: definitions under specs/, and what follows from them under proofs/. The house's constants are all the code.
+ghost use mathlib.Core.Path.{_≡_};
+ghost use Rattle.larq.specs.Channel.{window};
+ghost use Rattle.larq.specs.Settling.{hold};
+
+// The waiting window: 32 numbers (document 01, 'Numbers in a ring of 4,096').
+pub const WINDOW: u16 = 32;
+
+// How long a missing number is waited for: 150 ticks (document 01, 'Tick').
+pub const HOLD: u64 = 150;
+
+// The two constants are those of the rules.
+pub fn window() -> u16
+    ensures { λ r. ⌜ r ≡ window ⌝ }
+{
+    WINDOW
+}
+
+pub fn hold() -> u64
+    ensures { λ r. ⌜ r ≡ hold ⌝ }
+{
+    HOLD
+}
