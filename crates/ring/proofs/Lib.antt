@@ -1,1 +1,4 @@
 pub mod Signed
+pub mod Steps
+pub mod Sides
+pub mod Cases
