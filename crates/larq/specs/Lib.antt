@@ -4,3 +4,4 @@ pub mod Answer
 pub mod Events
 pub mod Table
 pub mod Run
+pub mod Demands
