@@ -5,6 +5,7 @@ use mathlib.Core.Bool.{Bool, true, false, _&&_}
 use mathlib.Core.List.{List, [], _∷_}
 use lib.ListN.{length}
 use lib.Dec.{leb}
+use Rattle.ring.specs.Ring.{next, steps}
 
 -- the waiting window, the house's choice
 abbrev pub window : ℕ
@@ -19,12 +20,16 @@ pub data Cell (H : Type 0) : Type 0 where
   waits : H → Cell H
   missing : ℕ → Cell H
 
--- C, M, the latest time taken, and a cell for each number from M to C: the span is their count
+-- C, M, the latest time taken, and a cell for each number from M to C
 pub record Channel (H : Type 0) : Type 0 where
   pub current : ℕ
   pub oldest : ℕ
   pub latest : ℕ
   pub cells : List (Cell H)
+
+-- the span: C + 1 - M modulo 4,096. It is the count of the cells in every record that a lent table holds, and in all that follow (proofs/Sound)
+abbrev pub span : {H : Type 0} → Channel H → ℕ
+span c = steps (c .oldest) (next (c .current))
 
 -- the waiting handles, in sequence order
 abbrev pub waiting : {H : Type 0} → List (Cell H) → List H
