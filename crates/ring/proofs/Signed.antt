@@ -78,12 +78,12 @@ fore (pos (suc n)) l h =
 fore (negsuc n) l h = clash (sym h)
 
 -- The same of what the machine reads back from the bits of a number that fits.
-module _ (z : ℤ) (f : SFits w32 z) where
+module _ (z : ℤ) (f : mag z < 2 ^ 31) where
   abbrev read : ℤ
   read = toZ w32 (ofZ w32 z)
 
   same : read ≡ z
-  same = toZ-ofZ w32 z f
+  same = toZ-ofZ w32 z (record { sfits = f })
 
   pub read-low : ltZ read (negsuc 63) ≡ true → Far ≡ side 64 z
   read-low h = too-low z (subst (λ (x : ℤ). ltZ x (negsuc 63) ≡ true) same h)
