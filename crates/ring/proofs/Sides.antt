@@ -5,12 +5,12 @@ use Prim.Native.Nat.{ℕ, zero, suc, _+_, _-_, _%_, _≤_, _<_}
 use mathlib.Core.Path.{_≡_, refl, sym, ap, _∙_, subst}
 use native.Mathlib.Omega.{arith}
 use native.Mathlib.Decide.{decLt}
-use lib.IntN.{pos, negsuc}
 use borrow.Author.Tests.{lt-ltb, le-ltb}
 use Rattle.ring.specs.Ring.{size, half, steps, signed, distance, side, seen}
 use Rattle.ring.specs.declared.Side.{Side}
 use Rattle.ring.specs.declared.Side.the-variants.{Ahead, Behind, Far}
 use Rattle.ring.proofs.Steps.{steps-mod, steps-up}
+use Rattle.ring.proofs.Halves.{lower, upper}
 
 -- What each side tells: of the steps from c to s, and of those back from s to c.
 pub record IsAhead (reach c s d : ℕ) : Type 0 where
@@ -30,13 +30,6 @@ abbrev pub Seen : ℕ → ℕ → ℕ → Side → Type 0
 Seen reach c s (Ahead d) = IsAhead reach c s d
 Seen reach c s (Behind d) = IsBehind reach c s d
 Seen reach c s Far = IsFar reach c s
-
--- The two halves of the ring, signed.
-lower : (n : ℕ) → n < half → signed n ≡ pos n
-lower n h = rw (lt-ltb n half h)
-
-upper : (n k : ℕ) → half ≤ n → n + suc k ≡ size → signed n ≡ negsuc k
-upper n k h e = rw (le-ltb n half h, lt-ltb n size (omega arith)) (ap negsuc (omega arith))
 
 -- The side to which n steps forward lead.
 module _ (reach : ℕ) where

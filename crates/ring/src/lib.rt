@@ -20,10 +20,10 @@ impl Seq {
     // How many numbers the ring has.
     pub const SIZE: u16 = 4096;
 
-    // How far a number may lie from the current one and still belong to the same run of frames.
+    // How far from the current number another may lie: twice the waiting window.
     pub const REACH: i32 = 64;
 
-    // From half the ring on, a number is nearer behind than ahead.
+    // As many steps forward as this or more count as steps back.
     const HALF: u16 = Seq::SIZE / 2;
 
     // The place so many steps on.

@@ -14,13 +14,19 @@ returns-2 : tie.Need-returns-2
 returns-2 c = read-high _ (c .before .before .struct-told .given .0 .1) (c .if2 .taken)
 
 sub-t6 : tie.Need-sub-t6
-sub-t6 c = negated-fits (c .before .before .before .before .args .self .0) (c .before .before .before .struct-told .given .0 .1) (c .before .before .if1 .left) (c .if3 .taken)
+sub-t6 c =
+    negated-fits (c .before .before .before .before .args .self .0) (c .before .before .before .struct-told .given .0 .1)
+    (c .before .before .if1 .left) (c .if3 .taken)
 
 cast-t7 : tie.Need-cast-t7
-cast-t7 c = behind-fits (c .before .before .before .before .args .self .0) (c .before .before .before .struct-told .given .0 .1) (c .before .before .if1 .left) (c .if3 .taken)
+cast-t7 c =
+    behind-fits (c .before .before .before .before .args .self .0) (c .before .before .before .struct-told .given .0 .1)
+    (c .before .before .if1 .left) (c .if3 .taken)
 
 cast-t8 : tie.Need-cast-t8
-cast-t8 c = ahead-fits (c .before .before .before .before .args .self .0) (c .before .before .before .struct-told .given .0 .1) (c .before .if2 .left) (c .if3 .left)
+cast-t8 c =
+    ahead-fits (c .before .before .before .before .args .self .0) (c .before .before .before .struct-told .given .0 .1)
+    (c .before .if2 .left) (c .if3 .left)
 
 returns-3 : tie.Need-returns-3
 returns-3 c = read-behind _ (c .before .before .before .struct-told .given .0 .1) (c .before .before .if1 .left) (c .if3 .taken)
