@@ -2,8 +2,8 @@
 ghost use mathlib.Core.Path.{_≡_};
 ghost use Rattle.ring.specs.Ring.{forward, steps, distance, side, seen};
 
-// A place in the ring. Every u16 is one: a value above 4,095 counts modulo 4,096, as if the ring were walked on from there.
-// So no call below asks anything of its caller; whether such a value is accepted at all is decided where it comes in (numbers 2 and 6).
+// A place in the ring. Every u16 is one: a value above 4,095 counts modulo 4,096, since going on past the last number comes round to the
+// first. So no call below asks anything of its caller. Whether such a value is accepted at all is settled where it comes in (numbers 2 and 6).
 pub struct Seq(pub u16);
 
 // A step along the ring: above 0 is ahead (new), 0 or below is behind (old; 001, clause 6.6.2).
