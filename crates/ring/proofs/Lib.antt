@@ -1,4 +1,5 @@
-pub mod Signed
 pub mod Steps
+pub mod Halves
 pub mod Sides
+pub mod Signed
 pub mod Cases

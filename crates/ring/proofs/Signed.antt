@@ -11,9 +11,10 @@ use mir.Syntax.{w16, w32}
 use mir.Val.{Fits, SFits, toZ, ofZ}
 use mir.ValLaws.{toZ-pos, toZ-ofZ}
 use borrow.Author.Tests.{lt-ltb, le-ltb, ltb-true, ltb-false, leb-true}
-use Rattle.ring.specs.Ring.{steps, distance, side}
+use Rattle.ring.specs.Ring.{size, half, steps, signed, distance, side}
 use Rattle.ring.specs.declared.Side.{Side}
 use Rattle.ring.specs.declared.Side.the-variants.{Ahead, Behind, Far}
+use Rattle.ring.proofs.Halves.{lower}
 
 clash {ℓ} : {X : Type ℓ} → false ≡ true → X
 clash h = absurd (subst T (sym h) tt)
@@ -28,18 +29,21 @@ difference-fits a b ha hb = record { sfits = by-test (ltb a b) }
 
 -- The two arms of `distance`, for n steps from a to b.
 module _ (a b n : ℕ) (is : n ≡ steps a b) where
-  pub lower-half : n < 2048 → toZ w32 n ≡ distance a b
+  read-steps : toZ w32 n ≡ pos n
+  read-steps = toZ-pos w32 n (omega arith)
+
+  pub lower-half : n < half → toZ w32 n ≡ distance a b
   unfolding distance
-  lower-half h = rw (toZ-pos w32 n (omega arith), ← is, lt-ltb n 2048 h)
+  lower-half h = read-steps ∙ sym (lower n h) ∙ ap signed is
 
-  pub upper-fits : SFits w32 (toZ w32 n -ℤ pos 4096)
-  upper-fits = rw (toZ-pos w32 n (omega arith)) (difference-fits n 4096 (omega arith) (omega arith))
+  pub upper-fits : SFits w32 (toZ w32 n -ℤ pos size)
+  upper-fits = rw read-steps (difference-fits n size (omega arith) (omega arith))
 
-  pub upper-half : 2048 ≤ n → toZ w32 (ofZ w32 (toZ w32 n -ℤ pos 4096)) ≡ distance a b
+  pub upper-half : half ≤ n → toZ w32 (ofZ w32 (toZ w32 n -ℤ pos size)) ≡ distance a b
   unfolding distance
-  upper-half h = toZ-ofZ w32 (toZ w32 n -ℤ pos 4096) upper-fits ∙ rw (toZ-pos w32 n (omega arith), ← is, le-ltb n 2048 h)
+  upper-half h = toZ-ofZ w32 (toZ w32 n -ℤ pos size) upper-fits ∙ rw (read-steps, ← is, le-ltb n half h)
 
--- The ends of `side`, by the tests on a signed number.
+-- The four ends of `side`, by the code's tests on a signed number. (`negsuc 63` is minus 64.)
 too-low : (z : ℤ) → ltZ z (negsuc 63) ≡ true → Far ≡ side 64 z
 unfolding side
 too-low (pos n) h = clash h
@@ -78,44 +82,44 @@ fore (pos (suc n)) l h =
 fore (negsuc n) l h = clash (sym h)
 
 -- The same of what the machine reads back from the bits of a number that fits.
-module _ (z : ℤ) (f : SFits w32 z) where
+module _ (z : ℤ) (f : mag z < 2 ^ 31) where
   abbrev read : ℤ
   read = toZ w32 (ofZ w32 z)
 
   same : read ≡ z
-  same = toZ-ofZ w32 z f
+  same = toZ-ofZ w32 z (record { sfits = f })
 
   pub read-low : ltZ read (negsuc 63) ≡ true → Far ≡ side 64 z
-  read-low h = too-low z (subst (λ (x : ℤ). ltZ x (negsuc 63) ≡ true) same h)
+  read-low h = too-low z (rw same at h)
 
   pub read-high : ltZ (pos 64) read ≡ true → Far ≡ side 64 z
-  read-high h = too-high z (subst (λ (x : ℤ). ltZ (pos 64) x ≡ true) same h)
+  read-high h = too-high z (rw same at h)
 
   module _ (l : ltZ read (negsuc 63) ≡ false) (h : leZ read (pos 0) ≡ true) where
     behind : Back z
-    behind = back z (subst (λ (x : ℤ). ltZ x (negsuc 63) ≡ false) same l) (subst (λ (x : ℤ). leZ x (pos 0) ≡ true) same h)
+    behind = back z (rw same at l) (rw same at h)
 
     negated : pos 0 -ℤ read ≡ pos (natAbs z)
-    negated = ap (λ (x : ℤ). pos 0 -ℤ x) same ∙ +ℤ-idl (negℤ z) ∙ behind .count
+    negated = rw same (+ℤ-idl (negℤ z) ∙ behind .count)
 
     pub negated-fits : SFits w32 (pos 0 -ℤ read)
-    negated-fits = subst (SFits w32) (sym negated) (record { sfits = omega (arith, behind .small) })
+    negated-fits = rw negated (record { sfits = omega (arith, behind .small) })
 
     again : toZ w32 (ofZ w32 (pos 0 -ℤ read)) ≡ pos (natAbs z)
     again = toZ-ofZ w32 (pos 0 -ℤ read) negated-fits ∙ negated
 
     pub behind-fits : T (nonNeg (toZ w32 (ofZ w32 (pos 0 -ℤ read)))) × Fits w16 (natAbs (toZ w32 (ofZ w32 (pos 0 -ℤ read))))
-    behind-fits = subst (λ (x : ℤ). T (nonNeg x) × Fits w16 (natAbs x)) (sym again) (tt, record { fits = omega (arith, behind .small) })
+    behind-fits = rw again (tt, record { fits = omega (arith, behind .small) })
 
     pub read-behind : Behind (natAbs (toZ w32 (ofZ w32 (pos 0 -ℤ read)))) ≡ side 64 z
-    read-behind = ap (λ (x : ℤ). Behind (natAbs x)) again ∙ behind .is
+    read-behind = rw again (behind .is)
 
   module _ (l : ltZ (pos 64) read ≡ false) (h : leZ read (pos 0) ≡ false) where
     ahead : Fore z
-    ahead = fore z (subst (λ (x : ℤ). ltZ (pos 64) x ≡ false) same l) (subst (λ (x : ℤ). leZ x (pos 0) ≡ false) same h)
+    ahead = fore z (rw same at l) (rw same at h)
 
     pub ahead-fits : T (nonNeg read) × Fits w16 (natAbs read)
-    ahead-fits = subst (λ (x : ℤ). T (nonNeg x) × Fits w16 (natAbs x)) (sym (same ∙ ahead .count)) (tt, record { fits = omega (arith, ahead .small) })
+    ahead-fits = rw (same ∙ ahead .count) (tt, record { fits = omega (arith, ahead .small) })
 
     pub read-ahead : Ahead (natAbs read) ≡ side 64 z
-    read-ahead = ap (λ (x : ℤ). Ahead (natAbs x)) same ∙ ahead .is
+    read-ahead = rw same (ahead .is)

@@ -2,30 +2,29 @@
 -- that never wrap. Document 01, 'Numbers in a ring of 4,096': sums of sequence numbers are taken in the ring.
 use Prim.Native.Nat.{ℕ, zero, suc, _+_, _-_, _%_, _≤_, _<_}
 use mathlib.Core.Path.{_≡_, refl, ap, _∙_}
-use mathlib.Core.List.{List, [], _∷_, _++_}
 use native.Mathlib.Omega.{arith}
 use lib.ListN.{length, drop}
 use Rattle.ring.specs.Ring.{size, forward, next, steps, rising}
 
--- A place that is in the ring already, and one that is brought there.
+-- Results lie in the ring, and a number counts modulo its size.
 pub forward-small : (a n : ℕ) → forward a n < size
 forward-small a n = omega arith
 
 pub steps-small : (a b : ℕ) → steps a b < size
 steps-small a b = omega arith
 
-pub steps-% : (a b : ℕ) → steps (a % size) (b % size) ≡ steps a b
-steps-% a b = omega arith
+pub steps-mod : (a b : ℕ) → steps (a % size) (b % size) ≡ steps a b
+steps-mod a b = omega arith
 
-pub forward-forward : (a m n : ℕ) → forward (forward a m) n ≡ forward a (m + n)
-forward-forward a m n = omega arith
-
--- Forward and back.
+-- Forward by the steps to b is b, and nothing less than a round but those steps leads there.
 pub forward-steps : (a b : ℕ) → forward a (steps a b) ≡ b % size
 forward-steps a b = omega arith
 
 pub steps-forward : (a n : ℕ) → n < size → steps a (forward a n) ≡ n
 steps-forward a n h = omega arith
+
+pub forward-forward : (a m n : ℕ) → forward (forward a m) n ≡ forward a (m + n)
+forward-forward a m n = omega arith
 
 pub steps-self : (a : ℕ) → steps a a ≡ 0
 steps-self a = omega arith
@@ -33,23 +32,23 @@ steps-self a = omega arith
 pub steps-zero : (a b : ℕ) → steps a b ≡ 0 → a % size ≡ b % size
 steps-zero a b e = omega arith
 
--- the way back makes the round full
+-- there and back is a round
 pub steps-back : (a b : ℕ) → 0 < steps a b → steps a b + steps b a ≡ size
 steps-back a b h = omega arith
 
--- One step more, or one less.
+-- One step more, and one less.
 pub steps-next : (a b : ℕ) → suc (steps a b) < size → steps a (next b) ≡ suc (steps a b)
 steps-next a b h = omega arith
 
 pub next-steps : (a b : ℕ) → 0 < steps a b → suc (steps (next a) b) ≡ steps a b
 next-steps a b h = omega arith
 
--- Counts that never wrap, as a sender has them: the ring number of the count n is n % size.
-pub next-count : (n : ℕ) → next (n % size) ≡ suc n % size
-next-count n = omega arith
+-- Counts that never wrap, as a sender has them: the count n has the ring number n % size.
+pub next-mod : (n : ℕ) → next (n % size) ≡ suc n % size
+next-mod n = omega arith
 
-pub forward-count : (n k : ℕ) → forward (n % size) k ≡ (n + k) % size
-forward-count n k = omega arith
+pub forward-mod : (n k : ℕ) → forward (n % size) k ≡ (n + k) % size
+forward-mod n k = omega arith
 
 pub steps-up : (n u : ℕ) → n ≤ u → u < n + size → steps (n % size) (u % size) ≡ u - n
 steps-up n u l h = omega arith
@@ -57,11 +56,22 @@ steps-up n u l h = omega arith
 pub steps-down : (n u : ℕ) → u < n → n ≤ u + size → steps (n % size) (u % size) ≡ size - (n - u)
 steps-down n u l h = omega arith
 
--- two counts less than a round apart that share a ring number are one
+-- counts less than a round apart with one ring number are one count
 pub same-count : (n u : ℕ) → n < u + size → u < n + size → n % size ≡ u % size → n ≡ u
 same-count n u l h e = omega arith
 
--- Numbers that rise.
+-- Numbers that rise round the ring.
 pub length-rising : (s k : ℕ) → length (rising s k) ≡ k
 length-rising s zero = refl
 length-rising s (suc k) = ap suc (length-rising (next s) k)
+
+rising-same : (a b j k : ℕ) → a ≡ b → j ≡ k → rising a j ≡ rising b k
+rising-same a b j k p q = cc
+
+-- what is left of them past the first j
+pub drop-rising : (s j k : ℕ) → s < size → drop j (rising s k) ≡ rising (forward s j) (k - j)
+drop-rising s zero k h = rising-same s (forward s 0) k (k - 0) (omega arith) (omega arith)
+drop-rising s (suc j) zero h = rising-same (forward s (suc j)) (forward s (suc j)) 0 (0 - suc j) refl (omega arith)
+drop-rising s (suc j) (suc k) h =
+    drop-rising (next s) j k (omega arith)
+    ∙ rising-same (forward (next s) j) (forward s (suc j)) (k - j) (suc k - suc j) (omega arith) (omega arith)

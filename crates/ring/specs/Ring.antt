@@ -1,6 +1,6 @@
--- The ring of 4,096 sequence numbers: steps forward, the signed distance, and how far it reaches.
+-- The ring of 4,096 sequence numbers: steps forward, the signed distance, and the side on which a number lies.
 -- Document 01, 'Numbers in a ring of 4,096' (001, clause 6.6.2: positive is new, zero or below is old).
--- A number above 4,095 stands for its remainder by 4,096.
+-- A number above 4,095 counts modulo 4,096, so that each definition means something on every number.
 use Prim.Native.Nat.{ℕ, zero, suc, _+_, _-_, _%_}
 use mathlib.Core.Bool.{Bool, cond}
 use mathlib.Core.List.{List, [], _∷_}
@@ -9,9 +9,12 @@ use lib.IntN.{ℤ, pos, negsuc, subℕ}
 use Rattle.ring.specs.declared.Side.{Side}
 use Rattle.ring.specs.declared.Side.the-variants.{Ahead, Behind, Far}
 
--- the ring's size
+-- how many numbers the ring has, and half of them
 abbrev pub size : ℕ
 size = 4096
+
+abbrev pub half : ℕ
+half = 2048
 
 -- n steps forward from a
 abbrev pub forward : ℕ → ℕ → ℕ
@@ -20,19 +23,19 @@ forward a n = (a + n) % size
 abbrev pub next : ℕ → ℕ
 next a = forward a 1
 
--- how many steps forward lead from a to b: 0 to 4,095
+-- how many steps forward lead from a to b, which is b minus a modulo 4,096: 0 to 4,095
 abbrev pub steps : ℕ → ℕ → ℕ
 steps a b = (b + (size - a % size)) % size
 
--- a number of steps from 0 to 4,095, read in -2,048 to 2,047
+-- a number of steps from 0 to 4,095, taken in -2,048 to 2,047: the upper half counts back from where it started
 abbrev pub signed : ℕ → ℤ
-signed n = cond (ltb n 2048) (pos n) (subℕ n size)
+signed n = cond (ltb n half) (pos n) (subℕ n size)
 
--- the distance from a to b: b minus a, taken in -2,048 to 2,047
+-- the distance from a to b: b minus a modulo 4,096, taken in -2,048 to 2,047
 unfoldable pub distance : ℕ → ℕ → ℤ
 distance a b = signed (steps a b)
 
--- where a distance leads: ahead by 1 to the reach, behind by 0 to the reach, or far
+-- where a distance leads: ahead by 1 to the reach, behind by 0 to the reach, or far. (`negsuc n` is minus `suc n`.)
 unfoldable pub side : ℕ → ℤ → Side
 side reach (pos zero) = Behind 0
 side reach (pos (suc n)) = cond (ltb n reach) (Ahead (suc n)) Far
@@ -42,7 +45,7 @@ side reach (negsuc n) = cond (ltb n reach) (Behind (suc n)) Far
 abbrev pub seen : ℕ → ℕ → ℕ → Side
 seen reach c s = side reach (distance c s)
 
--- k numbers from s on, in the ring
+-- k numbers of the ring, from its number s on
 abbrev pub rising : ℕ → ℕ → List ℕ
 rising s zero = []
 rising s (suc k) = s ∷ rising (next s) k

@@ -2,67 +2,53 @@
 ghost use mathlib.Core.Path.{_≡_};
 ghost use Rattle.ring.specs.Ring.{forward, steps, distance, side, seen};
 
-// A place in the ring. A value above 4,095 stands for its remainder by 4,096, so every u16 is one.
+// A place in the ring. Every u16 is one: a value above 4,095 counts modulo 4,096, since going on past the last number comes round to the
+// first. So no call below asks anything of its caller. Whether such a value is accepted at all is settled where it comes in (numbers 2 and 6).
 pub struct Seq(pub u16);
 
-// A step along the ring; what `distance` gives lies in -2,048 to 2,047.
+// A step along the ring: above 0 is ahead (new), 0 or below is behind (old; 001, clause 6.6.2).
 pub struct Distance(pub i32);
 
-// Where a distance leads: ahead by 1 to the reach, behind by 0 to the reach, or beyond both.
+// Where a step leads: ahead by 1 to the reach, behind by 0 to the reach, or farther than the reach either way.
 pub enum Side {
     Ahead(u16),
     Behind(u16),
     Far,
 }
 
-impl Distance {
-    // The side on which this distance lies, by the reach of 64.
-    pub fn side(self) -> Side
-        ensures { λ r. ⌜ r ≡ side 64 (self .0) ⌝ }
-    {
-        let d = self.0;
-        if d < 0 - Seq::REACH {
-            return Side::Far;
-        }
-        if Seq::REACH < d {
-            return Side::Far;
-        }
-        if d <= 0 {
-            Side::Behind((0 - d) as u16)
-        } else {
-            Side::Ahead(d as u16)
-        }
-    }
-}
-
 impl Seq {
+    // How many numbers the ring has.
     pub const SIZE: u16 = 4096;
 
+    // How far from the current number another may lie: twice the waiting window.
     pub const REACH: i32 = 64;
 
-    // So many steps forward.
+    // As many steps forward as this or more count as steps back.
+    const HALF: u16 = Seq::SIZE / 2;
+
+    // The place so many steps on.
     pub fn forward(self, by: u16) -> Seq
         ensures { λ r. ⌜ r .0 ≡ forward (self .0) by ⌝ }
     {
         Seq((self.0 % Seq::SIZE + by % Seq::SIZE) % Seq::SIZE)
     }
 
-    // How many steps forward lead to `to`: 0 to 4,095.
+    // How many steps on `to` is, always going forward: 0 to 4,095.
     pub fn steps(self, to: Seq) -> u16
         ensures { λ r. ⌜ r ≡ steps (self .0) (to .0) ⌝ }
     {
         (to.0 % Seq::SIZE + Seq::SIZE - self.0 % Seq::SIZE) % Seq::SIZE
     }
 
-    // From here to `to`, in -2,048 to 2,047.
+    // The distance from here to `to`: -2,048 to 2,047.
     pub fn distance(self, to: Seq) -> Distance
         ensures { λ r. ⌜ r .0 ≡ distance (self .0) (to .0) ⌝ }
     {
         let n = self.steps(to);
-        if n < 2048 {
+        if n < Seq::HALF {
             Distance(n as i32)
         } else {
-            Distance(n as i32 - 4096)
+            Distance(n as i32 - Seq::SIZE as i32)
         }
     }
 
@@ -71,5 +57,25 @@ impl Seq {
         ensures { λ r. ⌜ r ≡ seen 64 (self .0) (to .0) ⌝ }
     {
         self.distance(to).side()
+    }
+}
+
+impl Distance {
+    // On which side this step leads, by the reach of 64.
+    pub fn side(self) -> Side
+        ensures { λ r. ⌜ r ≡ side 64 (self .0) ⌝ }
+    {
+        let d = self.0;
+        if d < -Seq::REACH {
+            return Side::Far;
+        }
+        if Seq::REACH < d {
+            return Side::Far;
+        }
+        if d <= 0 {
+            Side::Behind((-d) as u16)
+        } else {
+            Side::Ahead(d as u16)
+        }
     }
 }

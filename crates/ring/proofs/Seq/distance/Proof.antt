@@ -1,4 +1,5 @@
 -- `Seq::distance` meets its contract: `steps` gives 0 to 4,095, of which the lower half stands as it is and the upper half less 4,096.
+use native.Mathlib.Omega.{arith}
 use borrow.Author.Needs.{needs}
 use Rattle.ring.proofs.Signed.{lower-half, upper-half, upper-fits}
 use Rattle.ring.proofs.Seq.distance.Statement.{statement}
@@ -13,19 +14,17 @@ cast-t6 c = search needs
 cast-t7 : tie.Need-cast-t7
 cast-t7 c = search needs
 
-sub-t8 : tie.Need-sub-t8
-sub-t8 c =
-    upper-fits (c .before .before .args .self .0) (c .before .before .args .to .0) (c .before .steps .result) (c .before .steps .ensures)
+cast-t8 : tie.Need-cast-t8
+cast-t8 c = search needs
+
+sub-t9 : tie.Need-sub-t9
+sub-t9 c = upper-fits _ _ _ (c .before .steps .ensures)
 
 returns : tie.Need-returns
-returns c =
-    lower-half (c .before .before .args .self .0) (c .before .before .args .to .0) (c .before .steps .result) (c .before .steps .ensures)
-    (c .if1 .taken)
+returns c = lower-half _ _ _ (c .before .steps .ensures) (omega arith)
 
 returns-2 : tie.Need-returns-2
-returns-2 c =
-    upper-half (c .before .before .args .self .0) (c .before .before .args .to .0) (c .before .steps .result) (c .before .steps .ensures)
-    (c .if1 .left)
+returns-2 c = upper-half _ _ _ (c .before .steps .ensures) (omega arith)
 
 pub distance-spec : {M : Type 1} → statement M
-distance-spec = tie.close (tie.spec steps-requires cast-t6 cast-t7 sub-t8 returns returns-2)
+distance-spec = tie.close (tie.spec steps-requires cast-t6 cast-t7 cast-t8 sub-t9 returns returns-2)
