@@ -1,12 +1,17 @@
 -- The words in which demand 3 is put: what survives a restart, and what one channel may learn of another.
-use Prim.Native.Nat.{ℕ}
+use Prim.Native.Nat.{ℕ, _-_}
 use mathlib.Core.Path.{_≡_}
 use mathlib.Core.Bool.{Bool, true, false, cond, _&&_, not}
+use mathlib.Core.Option.{Option, some, none}
 use mathlib.Core.List.{List, [], _∷_}
 use lib.Dec.{eqb}
+use Rattle.ring.specs.Ring.{steps}
+use Rattle.ring.specs.declared.Side.{Side}
+use Rattle.ring.specs.declared.Side.the-variants.{Ahead, Behind, Far}
+use Rattle.larq.specs.Channel.{Cell, waits, Channel}
 use Rattle.larq.specs.Answer.{Answer}
-use Rattle.larq.specs.Events.{Act, frame, reminder, tick, close}
-use Rattle.larq.specs.Table.{Event}
+use Rattle.larq.specs.Events.{Act, frame, reminder, tick, close, grown, filling, sideOf}
+use Rattle.larq.specs.Table.{Event, notFar}
 
 abbrev pub isClose : {H : Type 0} → Act H → Bool
 isClose (frame s h) = false
@@ -33,3 +38,44 @@ AgreeButFull [] [] = Unit
 AgreeButFull [] (q ∷ qs) = ⊥
 AgreeButFull (r ∷ rs) [] = ⊥
 AgreeButFull (r ∷ rs) (q ∷ qs) = cond (justOne (full r) (full q)) Unit ((r ≡ q) × AgreeButFull rs qs)
+
+-- the frame is far: the channel restarts
+abbrev pub restarts : {H : Type 0} → ℕ → Channel H → Act H → Bool
+restarts w c (frame s h) = not (notFar (sideOf w c s))
+restarts w c (reminder s) = false
+restarts w c tick = false
+restarts w c close = false
+
+-- the window if a number came to wait in it, else as it was
+abbrev pub filledOr : {H : Type 0} → List (Cell H) → Option (List (Cell H)) → List (Cell H)
+filledOr cs none = cs
+filledOr cs (some ds) = ds
+
+abbrev pub enteredData : {H : Type 0} → Channel H → ℕ → ℕ → H → Side → List (Cell H)
+enteredData c t s h (Ahead d) = grown c t (d - 1) (waits h ∷ [])
+enteredData c t s h (Behind d) = filledOr (c .cells) (filling (c .cells) (steps (c .oldest) s) h)
+enteredData c t s h Far = c .cells
+
+abbrev pub enteredReminder : {H : Type 0} → Channel H → ℕ → Side → List (Cell H)
+enteredReminder c t (Ahead d) = grown c t d []
+enteredReminder c t (Behind d) = c .cells
+enteredReminder c t Far = c .cells
+
+-- the window with the event's own numbers entered, before M moves
+abbrev pub entered : {H : Type 0} → ℕ → Channel H → ℕ → Act H → List (Cell H)
+entered w c t (frame s h) = enteredData c t s h (sideOf w c s)
+entered w c t (reminder s) = enteredReminder c t (sideOf w c s)
+entered w c t tick = c .cells
+entered w c t close = c .cells
+
+abbrev pub aheadBy : Side → ℕ
+aheadBy (Ahead d) = d
+aheadBy (Behind d) = 0
+aheadBy Far = 0
+
+-- how many numbers from C + 1 on an event makes missing: those up to s, without s itself where its frame is here
+abbrev pub made : {H : Type 0} → ℕ → Channel H → Act H → ℕ
+made w c (frame s h) = aheadBy (sideOf w c s) - 1
+made w c (reminder s) = aheadBy (sideOf w c s)
+made w c tick = 0
+made w c close = 0
