@@ -11,6 +11,7 @@ use Rattle.ring.specs.Ring.{size, forward, next, steps, rising}
 use Rattle.ring.specs.declared.Side.{Side}
 use Rattle.ring.specs.declared.Side.the-variants.{Ahead, Behind, Far}
 use Rattle.ring.proofs.Sides.{Seen, sees}
+use Rattle.ring.proofs.Steps.{forward-small, forward-forward, steps-forward, length-rising}
 use Rattle.larq.specs.Channel.{Cell, waits, missing, Channel, waiting, times, reach}
 use Rattle.larq.specs.Settling.{Walked, walk, wide, stale}
 use Rattle.larq.specs.Answer.{Answer, Change, same, holds, freed, Outcome, accepted}
@@ -32,7 +33,7 @@ pub record Moves {H : Type 0} (c : Channel H) (cs : List (Cell H)) (k : ℕ) (r 
   pub lost : r .lost ≡ length (times (take by cs))
   pub nack : r .nack ≡ rising (forward (next (c .current)) (by - length (c .cells))) (k - (by - length (c .cells)))
 
-abbrev MovesTo : {H : Type 0} → Channel H → List (Cell H) → ℕ → Outcome H → Type 0
+abbrev pub MovesTo : {H : Type 0} → Channel H → List (Cell H) → ℕ → Outcome H → Type 0
 MovesTo c cs k o = (d : Channel _) → o .change ≡ holds d → Moves c cs k (o .answer) d
 
 module _ {H : Type 0} (w : ℕ) (half : w < 1024) (c : Channel H) (t : ℕ) (g : Good w c) where
@@ -79,7 +80,7 @@ module _ {H : Type 0} (w : ℕ) (half : w < 1024) (c : Channel H) (t : ℕ) (g :
       grown-length : length (grown c t k last) ≡ length (c .cells) + (k + length last)
       grown-length = simp (length-append, length-replicate)
 
-  data-moves : (s : ℕ) (h : H) (r : Side) → Seen (reach w) (c .current) s r → notFar r ≡ true → MovesTo c (enteredData c t s h r) (aheadBy r - 1) (data-on w c t s h r)
+  pub data-moves : (s : ℕ) (h : H) (r : Side) → Seen (reach w) (c .current) s r → notFar r ≡ true → MovesTo c (enteredData c t s h r) (aheadBy r - 1) (data-on w c t s h r)
   data-moves s h (Ahead d) q n = ahead-moves s (d - 1) (waits h ∷ []) (omega (arith, q .some, q .near))
   data-moves s h (Behind d) q n = go (filling (c .cells) (steps (c .oldest) s) h)
     where
@@ -88,12 +89,12 @@ module _ {H : Type 0} (w : ℕ) (half : w < 1024) (c : Channel H) (t : ℕ) (g :
       go (some ds) = walked-moves (wide w) (c .current) 0 ds (λ p r. none-asked p (r .by - length (c .cells)))
   data-moves s h Far q n = absurd (let z : _≡_ {A = ℕ} 0 1 = cc in omega arith)
 
-  reminder-moves : (s : ℕ) (r : Side) → Seen (reach w) (c .current) s r → MovesTo c (enteredReminder c t r) (aheadBy r) (reminder-on w c t s r)
+  pub reminder-moves : (s : ℕ) (r : Side) → Seen (reach w) (c .current) s r → MovesTo c (enteredReminder c t r) (aheadBy r) (reminder-on w c t s r)
   reminder-moves s (Ahead d) q = ahead-moves s d [] (omega (arith, q .near))
   reminder-moves s (Behind d) q = stays-moves []
   reminder-moves s Far q = stays-moves []
 
-  act-moves : (a : Act H) → restarts w c a ≡ false → MovesTo c (entered w c t a) (made w c a) (act-on w c t a)
+  pub act-moves : (a : Act H) → restarts w c a ≡ false → MovesTo c (entered w c t a) (made w c a) (act-on w c t a)
   unfolding act-on
   act-moves (frame s h) n = data-moves s h (sideOf w c s) (sees (reach w) (c .current) s (omega arith)) (not-far (notFar (sideOf w c s)) n)
     where
@@ -112,3 +113,31 @@ pub moves : {H : Type 0} (w : ℕ) → w < 1024 → (spare : Bool) (c : Channel 
 moves w half spare c cs e g n =
     one-case w spare (c ∷ cs) e (MovesTo c (entered w c (e .time) (e .act)) (made w c (e .act)))
     (λ _ d q. absurd (let z : _≡_ {A = ℕ} 0 1 = cc in omega arith)) (λ _. act-moves w half c (e .time) g (e .act) n)
+
+getD-rising : (s k i : ℕ) → s < size → i < k → getD (rising s k) i 0 ≡ forward s i
+getD-rising s zero i l h = absurd (omega arith)
+getD-rising s (suc k) zero l h = omega arith
+getD-rising s (suc k) (suc i) l h = getD-rising (next s) k i (omega arith) (omega arith) ∙ omega arith
+
+-- None of the numbers asked for again is one that M passed in the same call: each lies past them, counted from the M before the call
+pub none-given-up : {H : Type 0} (w : ℕ) → w < 1024 → (c : Channel H) → Good w c → (cs : List (Cell H)) (k : ℕ) → k ≤ reach w → (r : Answer H) (d : Channel H)
+    → (m : Moves c cs k r d) (i : ℕ) → i < length (r .nack) → m .by ≤ steps (c .oldest) (getD (r .nack) i 0)
+none-given-up w half c g cs k most r d m i l =
+    subst (λ (n : ℕ). m .by ≤ n) (sym place) (omega arith)
+  where
+    given : ℕ
+    given = m .by - length (c .cells)
+
+    below : i < k - given
+    below = subst (λ (n : ℕ). i < n) (ap length (m .nack) ∙ length-rising (forward (next (c .current)) given) (k - given)) l
+
+    number : getD (r .nack) i 0 ≡ forward (c .oldest) (length (c .cells) + (given + i))
+    number =
+        ap (λ (ns : List ℕ). getD ns i 0) (m .nack)
+        ∙ getD-rising (forward (next (c .current)) given) (k - given) i (forward-small (next (c .current)) given) below
+        ∙ forward-forward (next (c .current)) given i
+        ∙ ap (λ (a : ℕ). forward a (given + i)) (sym (g .joined))
+        ∙ forward-forward (c .oldest) (length (c .cells)) (given + i)
+
+    place : steps (c .oldest) (getD (r .nack) i 0) ≡ length (c .cells) + (given + i)
+    place = ap (steps (c .oldest)) number ∙ steps-forward (c .oldest) (length (c .cells) + (given + i)) (omega (arith, below, g .sound .short))

@@ -79,7 +79,7 @@ settles-short : (w n t span : ℕ) → wide w t span ≡ false → span ≤ n �
 settles-short w n t span e l = ltb-false w span e
 
 module _ {H : Type 0} (w : ℕ) where
-  opened-good : (s t : ℕ) → s ≤ 4095 → Good {H = H} w (opened s t)
+  pub opened-good : (s t : ℕ) → s ≤ 4095 → Good {H = H} w (opened s t)
   opened-good s t l =
       record { sound = record { current = l; oldest = omega arith; short = omega arith; head = refl; times = refl }; joined = omega arith }
 
@@ -138,17 +138,17 @@ module _ {H : Type 0} (w : ℕ) where
         moved-good (wide w) (c .oldest) t (c .current) ds (p .oldest) (p .current) (r .times) (ap (forward (c .oldest)) (r .length) ∙ g .joined)
         (settles-short w (length ds))
 
-    data-good : (s : ℕ) (h : H) (r : Side) → s ≤ 4095 → Seen (reach w) (c .current) s r → Kept w (data-on w c t s h r .change)
+    pub data-good : (s : ℕ) (h : H) (r : Side) → s ≤ 4095 → Seen (reach w) (c .current) s r → Kept w (data-on w c t s h r .change)
     data-good s h (Ahead d) l q = ahead-good s d (d - 1) (waits h ∷ []) l (q .is) (omega (arith, q .some)) refl
     data-good s h (Behind d) l q = filled-good h (filling (c .cells) (steps (c .oldest) s) h) (filling-orderly 0 t (c .cells) (steps (c .oldest) s) h in-order)
     data-good s h Far l q = opened-good s t l
 
-    reminder-good : (s : ℕ) (r : Side) → s ≤ 4095 → Seen (reach w) (c .current) s r → Kept w (reminder-on w c t s r .change)
+    pub reminder-good : (s : ℕ) (r : Side) → s ≤ 4095 → Seen (reach w) (c .current) s r → Kept w (reminder-on w c t s r .change)
     reminder-good s (Ahead d) l q = ahead-good s d d [] l (q .is) (omega arith) refl
     reminder-good s (Behind d) l q = taken-good
     reminder-good s Far l q = taken-good
 
-    act-good : (a : Act H) → numberInRing a ≡ true → Kept w (act-on w c t a .change)
+    pub act-good : (a : Act H) → numberInRing a ≡ true → Kept w (act-on w c t a .change)
     unfolding act-on
     act-good (frame s h) l = data-good s h (sideOf w c s) (leb-true s 4095 l) (sees (reach w) (c .current) s (omega arith))
     act-good (reminder s) l = reminder-good s (sideOf w c s) (leb-true s 4095 l) (sees (reach w) (c .current) s (omega arith))
