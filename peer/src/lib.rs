@@ -6,6 +6,8 @@
 //! keeps that list.
 
 pub mod answer;
+pub mod capability;
+pub mod rate;
 pub mod receiver;
 pub mod record;
 pub mod ring;

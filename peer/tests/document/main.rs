@@ -1,7 +1,9 @@
 //! Document 01 held against this program: its runs at the edges, its numbers in order, its frames, sets and tables.
 
+mod capability;
 mod edges;
 mod numbers;
+mod rate;
 mod ring;
 mod slips;
 
