@@ -7,9 +7,13 @@
 
 pub mod answer;
 pub mod capability;
+pub mod make;
+pub mod random;
 pub mod rate;
 pub mod receiver;
 pub mod record;
 pub mod ring;
+pub mod session;
 pub mod steps;
+pub mod story;
 pub mod table;

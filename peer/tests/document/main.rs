@@ -3,9 +3,12 @@
 mod capability;
 mod edges;
 mod numbers;
+mod random;
 mod rate;
 mod ring;
+mod session;
 mod slips;
+mod story;
 
 use peer::answer::Answer;
 use peer::receiver::{Act, Buffers, ChannelEvent};
