@@ -7,6 +7,7 @@
 
 pub mod answer;
 pub mod capability;
+pub mod lent;
 pub mod make;
 pub mod random;
 pub mod rate;

@@ -7,6 +7,7 @@ mod moods;
 mod numbers;
 mod requests;
 mod stations;
+pub mod tables;
 
 use crate::random::Random;
 use crate::session::{self, Event};

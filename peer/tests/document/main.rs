@@ -2,6 +2,7 @@
 
 mod capability;
 mod edges;
+mod lent;
 mod numbers;
 mod random;
 mod rate;
