@@ -1,0 +1,68 @@
+//! The program: makes random sessions, answers sessions, and writes the example session.
+
+use peer::make::{self, Ending, Maker};
+use peer::{session, story};
+use std::io::{self, BufWriter, Read, Write};
+use std::process::ExitCode;
+
+const USAGE: &str = "\
+peer make SEED EVENTS [cut|unreadable]   writes a random session to standard output
+peer answer                              answers the session on standard input, a line for each event
+peer story                               writes the example session of the east dormitory to standard output";
+
+/// What the program is asked to do.
+enum Order {
+    Make(u64, usize, Ending),
+    Answer,
+    Story,
+}
+
+fn main() -> ExitCode {
+    let words: Vec<String> = std::env::args().skip(1).collect();
+    let words: Vec<&str> = words.iter().map(String::as_str).collect();
+    let Some(order) = order(&words) else {
+        eprintln!("{USAGE}");
+        return ExitCode::from(2);
+    };
+    match carry_out(&order) {
+        Ok(()) => ExitCode::SUCCESS,
+        Err(error) => {
+            eprintln!("peer: {error}");
+            ExitCode::FAILURE
+        }
+    }
+}
+
+fn order(words: &[&str]) -> Option<Order> {
+    match words {
+        ["make", seed, events] => Some(Order::Make(seed.parse().ok()?, events.parse().ok()?, Ending::Whole)),
+        ["make", seed, events, "cut"] => Some(Order::Make(seed.parse().ok()?, events.parse().ok()?, Ending::Cut)),
+        ["make", seed, events, "unreadable"] => Some(Order::Make(
+            seed.parse().ok()?,
+            events.parse().ok()?,
+            Ending::Unreadable,
+        )),
+        ["answer"] => Some(Order::Answer),
+        ["story"] => Some(Order::Story),
+        _ => None,
+    }
+}
+
+fn carry_out(order: &Order) -> io::Result<()> {
+    let mut output = BufWriter::new(io::stdout().lock());
+    match order {
+        Order::Make(seed, events, ending) => {
+            for event in Maker::from_seed(*seed).take(*events) {
+                output.write_all(&session::entry(&event.to_body()))?;
+            }
+            output.write_all(&make::ending(*seed, *ending))?;
+        }
+        Order::Answer => {
+            let mut stream = Vec::new();
+            io::stdin().lock().read_to_end(&mut stream)?;
+            session::answer(&stream, &mut output)?;
+        }
+        Order::Story => output.write_all(&session::stream(&story::events()))?,
+    }
+    output.flush()
+}
