@@ -5,3 +5,4 @@ pub mod Events
 pub mod Table
 pub mod Run
 pub mod Demands
+pub mod Counts
