@@ -6,7 +6,7 @@ use mathlib.Core.Logic.{_⊎_, inl, inr, ⊎-elim}
 use mathlib.Core.Bool.{Bool, true, false, cond}
 use native.Mathlib.Omega.{arith}
 use mathlib.Core.List.{List, [], _∷_, map}
-use Rattle.wire.proofs.Answered.{answered-same-or-both}
+use Rattle.wire.proofs.ByCases.{answered-same-or-both}
 use Rattle.wire.specs.Refusals.{Refusal, _else_, answered}
 use Rattle.larq.specs.Channel.{Channel}
 use Rattle.larq.specs.Answer.{Answer, Outcome, refused}

@@ -5,7 +5,7 @@ use mathlib.Core.Bool.{Bool, true, _||_}
 use mathlib.Core.List.{List, [], _∷_}
 use native.Mathlib.Omega.{arith}
 use borrow.Author.Tests.{leb-true}
-use Rattle.wire.proofs.Answered.{answered-case, answered-good}
+use Rattle.wire.proofs.ByCases.{answered-case, answered-good}
 use Rattle.larq.specs.Channel.{Channel, sound}
 use Rattle.larq.specs.Answer.{Outcome, refused}
 use Rattle.larq.specs.Events.{Act, act-on}

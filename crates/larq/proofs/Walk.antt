@@ -6,7 +6,7 @@ use mathlib.Core.Bool.{Bool, true, false, cond}
 use mathlib.Core.List.{List, [], _∷_}
 use native.Mathlib.Omega.{arith}
 use lib.ListN.{length, take, drop}
-use Rattle.wire.proofs.Answered.{cond-case}
+use Rattle.wire.proofs.ByCases.{cond-case}
 use Rattle.ring.specs.Ring.{size, forward, next}
 use Rattle.larq.specs.Channel.{Cell, waits, missing, waiting, times, headMissing, orderly}
 use Rattle.larq.specs.Settling.{Walked, walk, stays, handing, losing}

@@ -1,44 +1,70 @@
--- An answer by cases: it is the refusal by one of the listed numbers, or all tests pass and it is the answer to good input. Assumes nothing.
-use Prim.Native.Nat.{ℕ}
-use mathlib.Core.Logic.{_⊎_, inl, inr}
-use mathlib.Core.Path.{_≡_, refl}
-use mathlib.Core.Bool.{Bool, true, false, cond}
+-- Laws of `answered`, the answer by refusals in their order, for any list of tests and any kind of answer; those of `first` are in First.antt.
+-- Assumes nothing.
+use mathlib.Core.Path.{_≡_, refl, _∙_, sym, ap}
+use mathlib.Core.Bool.{Bool, true, false, cond, _&&_}
 use mathlib.Core.List.{List, [], _∷_}
-use Rattle.wire.specs.Refusals.{Refusal, answered}
+use Prim.Native.Nat.{ℕ, zero, suc, _<_, _≤_}
+use native.Mathlib.Nat.{le-of-suc-le-suc, not-suc-le-zero}
+use native.Mathlib.Omega.{arith}
+use borrow.Author.Tests.{leb-true}
+use lib.Dec.{leb}
+use lib.ListN.{length, drop}
+use Rattle.wire.specs.Refusals.{Refusal, first, answered}
+use Rattle.wire.proofs.First.{test}
+use Rattle.wire.proofs.Joined.{and-left, and-right}
 
-pub cond-case {ℓ ℓ′} : {A : Type ℓ} (P : A → Type ℓ′) (b : Bool) (x y : A) → (b ≡ true → P x) → (b ≡ false → P y) → P (cond b x y)
-cond-case P true x y f g = f refl
-cond-case P false x y f g = g refl
+module _ {A : Type 0} (refuse : ℕ → A) (good : A) where
+  -- the first k tests pass: what is left to decide is the list from k on
+  abbrev pub Past : List Refusal → ℕ → Type 0
+  Past l k = answered refuse l good ≡ answered refuse (drop k l) good
 
--- all tests pass
-abbrev pub AllPass : List Refusal → Type 0
-AllPass [] = Unit
-AllPass (r ∷ l) = ((r .passes ≡ true) × AllPass l)
+  step : (l : List Refusal) (k : ℕ) → k < length l → test l k .passes ≡ true → answered refuse (drop k l) good ≡ answered refuse (drop (suc k) l) good
+  step [] k h e = absurd (not-suc-le-zero h)
+  step (r ∷ l) zero h e = simp e
+  step (r ∷ l) (suc k) h e = step l k (le-of-suc-le-suc h) e
 
--- P holds of each refusal of a list
-abbrev pub EachRefused {ℓ} : {A : Type 0} → (A → Type ℓ) → (ℕ → A) → List Refusal → Type ℓ
-EachRefused P refuse [] = Unit
-EachRefused P refuse (r ∷ l) = (P (refuse (r .number)) × EachRefused P refuse l)
+  stop : (l : List Refusal) (k : ℕ) → k < length l → test l k .passes ≡ false → answered refuse (drop k l) good ≡ refuse (test l k .number)
+  stop [] k h e = absurd (not-suc-le-zero h)
+  stop (r ∷ l) zero h e = simp e
+  stop (r ∷ l) (suc k) h e = stop l k (le-of-suc-le-suc h) e
 
-pub answered-case {ℓ} : {A : Type 0} (P : A → Type ℓ) (refuse : ℕ → A) (l : List Refusal) (good : A)
-    → EachRefused P refuse l → (AllPass l → P good) → P (answered refuse l good)
-answered-case P refuse [] good r k = k tt
-answered-case P refuse (t ∷ l) good r k =
-    cond-case P (t .passes) (answered refuse l good) (refuse (t .number))
-    (λ e. answered-case P refuse l good (r .1) (λ p. k (e, p))) (λ _. r .0)
+  pub passes : (l : List Refusal) (k : ℕ) → k < length l → Past l k → test l k .passes ≡ true → Past l (suc k)
+  passes l k h p e = p ∙ step l k h e
 
-pub answered-good : {A : Type 0} (refuse : ℕ → A) (l : List Refusal) (good : A) → AllPass l → answered refuse l good ≡ good
-answered-good refuse [] good p = refl
-answered-good refuse (t ∷ l) good p = rw (p .0) (answered-good refuse l good (p .1))
+  pub fails : (l : List Refusal) (k : ℕ) → k < length l → Past l k → test l k .passes ≡ false → answered refuse l good ≡ refuse (test l k .number)
+  fails l k h p e = p ∙ stop l k h e
 
--- two answers to good input after the same tests: the tests give the same number to both, or let both through
-pub answered-same-or-both : {A : Type 0} (refuse : ℕ → A) (l : List Refusal) (x y : A)
-    → (answered refuse l x ≡ answered refuse l y) ⊎ ((answered refuse l x ≡ x) × (answered refuse l y ≡ y))
-answered-same-or-both refuse [] x y = inr (refl, refl)
-answered-same-or-both refuse (t ∷ l) x y = go (t .passes) (answered-same-or-both refuse l x y)
-  where
-    go : (b : Bool) → (answered refuse l x ≡ answered refuse l y) ⊎ ((answered refuse l x ≡ x) × (answered refuse l y ≡ y))
-        → (cond b (answered refuse l x) (refuse (t .number)) ≡ cond b (answered refuse l y) (refuse (t .number)))
-        ⊎ ((cond b (answered refuse l x) (refuse (t .number)) ≡ x) × (cond b (answered refuse l y) (refuse (t .number)) ≡ y))
-    go true r = r
-    go false r = inl refl
+-- no number of the list is 0, which stands for accepted
+abbrev pub numbered : List Refusal → Bool
+numbered [] = true
+numbered (r ∷ l) = leb 1 (r .number) && numbered l
+
+-- one test more: no number is given exactly if it passes and the rest gives none
+none-given : (p : Bool) (n m : ℕ) → leb 1 n ≡ true → cond p m n ≡ 0 → (p ≡ true) × (m ≡ 0)
+none-given true n m h e = (refl, e)
+none-given false n m h e = absurd (let w : 1 ≤ n = leb-true 1 n h in omega arith)
+
+-- no number is given: each test passes
+pub all-pass : (l : List Refusal) → numbered l ≡ true → first l ≡ 0 → (k : ℕ) → k < length l → test l k .passes ≡ true
+all-pass [] z e k h = absurd (not-suc-le-zero h)
+all-pass (r ∷ l) z e zero h = none-given (r .passes) (r .number) (first l) (and-left (leb 1 (r .number)) (numbered l) z) e .0
+all-pass (r ∷ l) z e (suc k) h =
+    all-pass l (and-right (leb 1 (r .number)) (numbered l) z) (none-given (r .passes) (r .number) (first l) (and-left (leb 1 (r .number)) (numbered l) z) e .1) k
+    (le-of-suc-le-suc h)
+
+module _ {A : Type 0} (refuse : ℕ → A) (good : A) where
+  -- each test passes: the good answer is given
+  pub first-accepts : (l : List Refusal) → numbered l ≡ true → first l ≡ 0 → answered refuse l good ≡ good
+  first-accepts [] z e = refl
+  first-accepts (r ∷ l) z e =
+      let h = none-given (r .passes) (r .number) (first l) (and-left (leb 1 (r .number)) (numbered l) z) e in
+      rw (h .0) (first-accepts l (and-right (leb 1 (r .number)) (numbered l) z) (h .1))
+
+  -- a number is given: so is the refusal by it
+  pub first-refuses : (l : List Refusal) {n : ℕ} → n ≡ first l → (n ≡ 0 → ⊥) → answered refuse l good ≡ refuse n
+  first-refuses [] e h = absurd (h e)
+  first-refuses (r ∷ l) {n} e h = by-test (r .passes) e (λ rest. first-refuses l rest h)
+    where
+      by-test : (p : Bool) → n ≡ cond p (first l) (r .number) → (n ≡ first l → answered refuse l good ≡ refuse n) → cond p (answered refuse l good) (refuse (r .number)) ≡ refuse n
+      by-test true e rest = rest e
+      by-test false e rest = ap refuse (sym e)

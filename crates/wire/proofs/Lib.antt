@@ -1,2 +1,9 @@
 pub mod First
 pub mod Answered
+pub mod ByCases
+pub mod Ruled
+pub mod Joined
+pub mod Within
+pub mod Octets
+pub mod Over
+pub mod Laid

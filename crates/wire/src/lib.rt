@@ -1,10 +1,65 @@
-// The words of every frame format: octets, refusals in their order, and writing into a slice.
+// The words of every frame format: octets, the answers of fields, refusals in their order, the short format, and laying octets into a slice.
+// Every function takes any input: past the end an octet is 0, a part that does not lie within is empty, and what does not fit is not written.
+mod answers;
+mod laying;
+mod short;
+
+pub use answers::Checked;
+pub use answers::Field;
+pub use answers::right_if;
+pub use answers::value_if;
+pub use laying::clear;
+pub use laying::lay;
+pub use short::ethertype_right;
+pub use short::next_ethertype_zero;
 ghost use mathlib.Core.Path.{_≡_};
-ghost use lib.ListN.{getD};
+ghost use mathlib.Core.Bool.{cond};
+ghost use Prim.Native.Nat.{_+_};
+ghost use lib.Dec.{leb};
+ghost use Rattle.wire.specs.Octets.{octetAt, sixAt, within, OwnPart};
 
 // The octet at a place, or 0 past the end.
 pub fn octet(s: &[u8], at: usize) -> u8
-    ensures { λ r. ⌜ r ≡ getD (now (s .entry)) at 0 ⌝ }
+    ensures { λ r. ⌜ r ≡ octetAt (now (s .entry)) at ⌝ }
 {
     if at < s.len() { s[at] } else { 0 }
+}
+
+// The six octets from a place on: an address.
+pub fn six(s: &[u8], at: usize) -> [u8; 6]
+    ensures { λ r. ⌜ r ≡ sixAt (now (s .entry)) at ⌝ }
+{
+    if s.len() <= at {
+        return [0; 6];
+    }
+    [
+        octet(s, at),
+        octet(s, at + 1),
+        octet(s, at + 2),
+        octet(s, at + 3),
+        octet(s, at + 4),
+        octet(s, at + 5),
+    ]
+}
+
+// Whether so many octets from a place on lie within a length. The sum could pass the largest number, the difference cannot.
+pub fn lies_within(length: usize, start: usize, count: usize) -> bool
+    ensures { λ r. ⌜ r ≡ leb (start + count) length ⌝ }
+{
+    if length < start {
+        false
+    } else {
+        count <= length - start
+    }
+}
+
+// The caller's own octets from a place on, or none of them where they do not lie within the slice.
+pub fn part(s: &[u8], start: usize, count: usize) -> &[u8]
+    ensures { λ r. ⌜ OwnPart (s .entry) (cond (within (now (s .entry)) start count) start 0) (cond (within (now (s .entry)) start count) count 0) r ⌝ }
+{
+    if lies_within(s.len(), start, count) {
+        let end = start + count;
+        return &s[start..end];
+    }
+    &s[0..0]
 }
