@@ -39,12 +39,12 @@ module _ {A B : Type 0} (f : A → B) where
   abbrev pub on-answer : Answer A → Answer B
   on-answer r = record { number = r .number; up = map f (r .up); returned = map f (r .returned); nack = r .nack; lost = r .lost }
 
-  abbrev on-change : Change A → Change B
+  abbrev pub on-change : Change A → Change B
   on-change same = same
   on-change (holds c) = holds (on-channel c)
   on-change freed = freed
 
-  abbrev on-outcome : Outcome A → Outcome B
+  abbrev pub on-outcome : Outcome A → Outcome B
   on-outcome o = record { answer = on-answer (o .answer); change = on-change (o .change) }
 
   abbrev pub on-act : Act A → Act B
@@ -178,7 +178,7 @@ module _ {A B : Type 0} (f : A → B) where
   answered-renamed [] o = refl
   answered-renamed (r ∷ l) o = rw (answered-renamed l o) (cond-renamed on-outcome (r .passes) (answered refused l o) (refused (r .number)))
 
-  one-renamed : (w : ℕ) (spare : Bool) (cs : List (Channel A)) (e : Event A) → one w spare (map on-channel cs) (on-event e) ≡ on-outcome (one w spare cs e)
+  pub one-renamed : (w : ℕ) (spare : Bool) (cs : List (Channel A)) (e : Event A) → one w spare (map on-channel cs) (on-event e) ≡ on-outcome (one w spare cs e)
   unfolding one
   one-renamed w spare cs e =
       ap (λ l. answered refused l (done w (map on-channel cs) (e .time) (on-act (e .act)))) (refusals-renamed w spare cs e)

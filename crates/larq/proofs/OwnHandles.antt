@@ -1,0 +1,98 @@
+-- Order for the host's own handles, equal ones too: each handle is marked with the sender's count of its frame, the rules run on the marked handles,
+-- and what the box answers is what they answer with the marks taken off. Demand 3, second half.
+use Prim.Native.Nat.{ℕ, suc, _%_, _<_}
+use mathlib.Core.Path.{_≡_, refl, ap, sym, _∙_}
+use mathlib.Core.Bool.{Bool, true, false, cond}
+use mathlib.Core.List.{List, [], _∷_, map}
+use Rattle.ring.specs.Ring.{size}
+use Rattle.larq.specs.Channel.{Channel}
+use Rattle.larq.specs.Answer.{Answer}
+use Rattle.larq.specs.Events.{opened}
+use Rattle.larq.specs.Table.{Key, Place, free, held, Table, channels, Event}
+use Rattle.larq.specs.Run.{answers, eventsOf, answersTo}
+use Rattle.larq.specs.Demands.{untilClosed}
+use Rattle.larq.specs.Counts.{Note, eventOf, Within, Rising, allUp, numbers}
+use Rattle.larq.proofs.Order.{order}
+use Rattle.larq.specs.Answer.{Change, same, holds, freed}
+use Rattle.larq.specs.Table.{one, outcome, step}
+use Rattle.larq.proofs.Keys.{sameKey-refl}
+use Rattle.larq.proofs.Restart.{onward, until, from-record}
+use Rattle.larq.proofs.Renamed.{on-channel, on-change, on-outcome, on-answer, on-event, one-renamed}
+
+-- what a record decides, with every handle renamed
+until-renamed : {A B : Type 0} (f : A → B) (w : ℕ) (c : Channel A) (es : List (Event A)) → until w (on-channel f c) (map (on-event f) es) ≡ map (on-answer f) (until w c es)
+until-renamed f w c [] = refl
+until-renamed {A} {B} f w c (e ∷ es) = rw (one-renamed f w true (c ∷ []) e) (ap (λ l. on-answer f (one w true (c ∷ []) e .answer) ∷ l) (go (one w true (c ∷ []) e .change) (λ d. until-renamed f w d es)))
+  where
+    go : (ch : Change A) → ((d : Channel A) → until w (on-channel f d) (map (on-event f) es) ≡ map (on-answer f) (until w d es))
+        → onward (on-change f ch) (on-channel f c) (λ d. until w d (map (on-event f) es)) [] ≡ map (on-answer f) (onward ch c (λ d. until w d es) [])
+    go same ih = ih c
+    go (holds d) ih = ih d
+    go freed ih = refl
+
+numbers-renamed : {A B : Type 0} (f : A → B) (rs : List (Answer A)) → numbers (map (on-answer f) rs) ≡ numbers rs
+numbers-renamed f [] = refl
+numbers-renamed f (r ∷ rs) = ap (λ l. r .number ∷ l) (numbers-renamed f rs)
+
+-- events of one channel only
+module _ {H : Type 0} (count : H → ℕ) (k : Key) where
+  events-all : (ns : List (Note H)) → eventsOf k (map (eventOf count k) ns) ≡ map (eventOf count k) ns
+  events-all [] = refl
+  events-all (n ∷ ns) = rw (sameKey-refl k) (ap (λ l. eventOf count k n ∷ l) (events-all ns))
+
+  answers-all : (w : ℕ) (t : Table H) (ns : List (Note H))
+      → answersTo k (map (eventOf count k) ns) (answers w t (map (eventOf count k) ns)) ≡ answers w t (map (eventOf count k) ns)
+  answers-all w t [] = refl
+  answers-all w t (n ∷ ns) = rw (sameKey-refl k) (ap (λ l. outcome w t (eventOf count k n) .answer ∷ l) (answers-all w (step w t (eventOf count k n)) ns))
+
+module _ {A : Type 0} where
+  -- a handle beside the sender's count of its frame
+  abbrev pub countOf : ℕ × A → ℕ
+  countOf x = x .0
+
+  abbrev pub own : ℕ × A → A
+  own x = x .1
+
+  -- the answers of a box that has this channel alone, to the marked events, until the close
+  abbrev pub marked : ℕ → Key → Channel (ℕ × A) → List (Note (ℕ × A)) → List (Answer (ℕ × A))
+  marked w k c ns = untilClosed (map (eventOf countOf k) ns) (answers w (held k c ∷ []) (map (eventOf countOf k) ns))
+
+  marked-until : (w : ℕ) (k : Key) (c : Channel (ℕ × A)) (ns : List (Note (ℕ × A))) → marked w k c ns ≡ until w c (map (eventOf countOf k) ns)
+  marked-until w k c ns =
+      ap (untilClosed (map (eventOf countOf k) ns)) (sym (answers-all countOf k w (held k c ∷ []) ns))
+      ∙ ap (λ l. untilClosed l (answersTo k (map (eventOf countOf k) ns) (answers w (held k c ∷ []) (map (eventOf countOf k) ns)))) (sym (events-all countOf k ns))
+      ∙ from-record w k (held k c ∷ []) c [] (rw (sameKey-refl k)) (map (eventOf countOf k) ns)
+      ∙ ap (until w c) (events-all countOf k ns)
+
+  -- what the box answers, rs, is what the marked run answers with the marks taken off; and by the marks what goes up rises strictly
+  pub record OwnOrder (w : ℕ) (k : Key) (u time : ℕ) (ns : List (Note (ℕ × A))) (rs : List (Answer A)) : Type 0 where
+    pub answers : rs ≡ map (on-answer own) (marked w k (opened (u % size) time) ns)
+    pub rising : Rising countOf (suc u) (allUp (marked w k (opened (u % size) time) ns))
+
+  pub own-order : (w : ℕ) → w < 1024 → (k : Key) (t : Table A) (u time : ℕ) (cs : List (Channel A)) → channels k t ≡ opened (u % size) time ∷ cs
+      → (es : List (Event A)) (ns : List (Note (ℕ × A))) → eventsOf k es ≡ map (on-event own) (map (eventOf countOf k) ns)
+      → Within countOf w u ns (numbers (untilClosed (eventsOf k es) (answersTo k es (answers w t es))))
+      → OwnOrder w k u time ns (untilClosed (eventsOf k es) (answersTo k es (answers w t es)))
+  own-order w half k t u time cs e es ns v q =
+      record { answers = unmarked; rising = rw one-channel (order countOf w half k (held k c ∷ []) u time [] (rw (sameKey-refl k)) ms ns (events-all countOf k ns) near) }
+    where
+      c : Channel (ℕ × A)
+      c = opened (u % size) time
+
+      ms : List (Event (ℕ × A))
+      ms = map (eventOf countOf k) ns
+
+      unmarked : untilClosed (eventsOf k es) (answersTo k es (answers w t es)) ≡ map (on-answer own) (marked w k c ns)
+      unmarked =
+          from-record w k t (opened (u % size) time) cs e es
+          ∙ ap (until w (opened (u % size) time)) v
+          ∙ until-renamed own w c ms
+          ∙ ap (map (on-answer own)) (sym (marked-until w k c ns))
+
+      one-channel : marked w k c ns ≡ untilClosed (eventsOf k ms) (answersTo k ms (answers w (held k c ∷ []) ms))
+      one-channel =
+          ap (λ l. untilClosed l (answers w (held k c ∷ []) ms)) (sym (events-all countOf k ns))
+          ∙ ap (untilClosed (eventsOf k ms)) (sym (answers-all countOf k w (held k c ∷ []) ns))
+
+      near : Within countOf w u ns (numbers (untilClosed (eventsOf k ms) (answersTo k ms (answers w (held k c ∷ []) ms))))
+      near = rw (← one-channel, ← numbers-renamed own (marked w k c ns), ← unmarked) q
