@@ -115,9 +115,11 @@ module _ {H : Type 0} (count : H → ℕ) where
   waiting-climbs : (n j : ℕ) (cs : List (Cell H)) → j ≤ length cs → Counts n cs → Climbs n (n + j) (waiting (take j cs))
   waiting-climbs n zero cs l p = omega arith
   waiting-climbs n (suc j) [] l p = absurd (omega arith)
-  waiting-climbs n (suc j) (waits h ∷ cs) l p =
-      (omega arith, subst (λ m. Climbs (suc (count h)) m (waiting (take j cs))) (omega arith)
-      (subst (λ m. Climbs (suc m) (suc n + j) (waiting (take j cs))) (sym (p .0)) (waiting-climbs (suc n) j cs (omega arith) (p .1))))
+  waiting-climbs n (suc j) (waits h ∷ cs) l p = (
+    omega arith,
+    subst (λ m. Climbs (suc (count h)) m (waiting (take j cs))) (omega arith)
+        (subst (λ m. Climbs (suc m) (suc n + j) (waiting (take j cs))) (sym (p .0)) (waiting-climbs (suc n) j cs (omega arith) (p .1))),
+  )
   waiting-climbs n (suc j) (missing t ∷ cs) l p =
       subst (λ m. Climbs n m (waiting (take j cs))) (omega arith)
       (Climbs-lower n (suc n) (suc n + j) (waiting (take j cs)) (omega arith) (waiting-climbs (suc n) j cs (omega arith) p))

@@ -6,3 +6,4 @@ pub mod Table
 pub mod Run
 pub mod Demands
 pub mod Counts
+pub mod Calls
