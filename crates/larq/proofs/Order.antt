@@ -23,6 +23,7 @@ use Rattle.larq.specs.Run.{answers, eventsOf, answersTo}
 use Rattle.larq.specs.Demands.{untilClosed}
 use Rattle.larq.specs.Counts.{Sent, sent, reminded, ticked, closed, Note, actOf, eventOf, Near, NearBy, raised, Within, Rising, allUp, numbers}
 use Rattle.larq.proofs.Cases.{Passes, one-case}
+use Rattle.larq.proofs.Untouched.{act-accepts}
 use Rattle.larq.proofs.Walk.{Passed, walk-passes}
 use Rattle.larq.proofs.Orderly.{OnSome}
 use Rattle.larq.proofs.Sound.{Sound, sound-is}
@@ -210,34 +211,13 @@ module _ {H : Type 0} (count : H → ℕ) where
     act-steps ticked s q = walked-steps (stale t) hi 0 (c .current) (c .cells) (inv .counts) (inv .span) (inv .current)
     act-steps closed s q = record { to = n; climbs = omega arith; next = tt }
 
-    data-accepts : (s : ℕ) (h : H) (r : Side) → data-on w c t s h r .answer .number ≡ 0
-    data-accepts s h (Ahead d) = refl
-    data-accepts s h (Behind d) = go (filling (c .cells) (steps (c .oldest) s) h)
-      where
-        go : (o : Option (List (Cell H))) → filled w c t h o .answer .number ≡ 0
-        go none = refl
-        go (some ds) = refl
-    data-accepts s h Far = refl
-
-    reminder-accepts : (s : ℕ) (r : Side) → reminder-on w c t s r .answer .number ≡ 0
-    reminder-accepts s (Ahead d) = refl
-    reminder-accepts s (Behind d) = refl
-    reminder-accepts s Far = refl
-
-    act-accepts : (a : Act H) → act-on w c t a .answer .number ≡ 0
-    unfolding act-on
-    act-accepts (frame s h) = data-accepts s h (sideOf w c s)
-    act-accepts (reminder s) = reminder-accepts s (sideOf w c s)
-    act-accepts tick = refl
-    act-accepts close = refl
-
   one-steps : (w : ℕ) → w < 1024 → (n hi : ℕ) (c : Channel H) → Numbered n hi c → (k : Key) (e : Note H)
       → (one w true (c ∷ []) (eventOf count k e) .answer .number ≡ 0 → NearBy count w hi (e .what))
       → Steps n hi (raised count hi (e .what)) c (one w true (c ∷ []) (eventOf count k e))
   one-steps w half n hi c inv k e =
       one-case w true (c ∷ []) (eventOf count k e) (λ o. (o .answer .number ≡ 0 → NearBy count w hi (e .what)) → Steps n hi (raised count hi (e .what)) c o)
       (λ r _. refused-steps w half n hi c (e .time) inv (raised count hi (e .what)) r)
-      (λ p q. act-steps w half n hi c (e .time) inv (e .what) (sound-is w c (p .whole)) (q (act-accepts w half n hi c (e .time) inv (actOf count (e .what)))))
+      (λ p q. act-steps w half n hi c (e .time) inv (e .what) (sound-is w c (p .whole)) (q (act-accepts w c (e .time) (actOf count (e .what)))))
 
   -- along the events of an open channel, until it is closed
   run-climbs : (w : ℕ) → w < 1024 → (k : Key) (n hi : ℕ) (c : Channel H) → Numbered n hi c → (ns : List (Note H))
