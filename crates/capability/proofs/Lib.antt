@@ -1,1 +1,4 @@
 pub mod Settled
+pub mod Bits
+pub mod Flags
+pub mod Formulas

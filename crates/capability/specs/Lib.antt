@@ -1,3 +1,4 @@
 pub mod Sets
 pub mod Answers
 pub mod Events
+pub mod Flags
