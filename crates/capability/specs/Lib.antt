@@ -2,3 +2,4 @@ pub mod Sets
 pub mod Answers
 pub mod Events
 pub mod Flags
+pub mod Run
