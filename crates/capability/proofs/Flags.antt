@@ -12,7 +12,8 @@ use Rattle.capability.specs.declared.Rx.{Rx}
 use Rattle.capability.specs.declared.Frame.{Frame}
 use Rattle.capability.specs.declared.Station.{Station}
 use Rattle.capability.specs.Sets.{_with_, _without_, currentTx, currentRx}
-use Rattle.capability.specs.Events.{afterEnd, reallyNew, takenAway, heardRx, used, ended, received}
+use Rattle.capability.specs.Answers.{refused}
+use Rattle.capability.specs.Events.{unannounced, afterEnd, reallyNew, takenAway, heardRx, used, ended, received}
 use Rattle.capability.specs.Flags.{Word, _isIn_, _isNotIn_, SomeFlag, SomeDifference, SomeUnannounced}
 use Rattle.capability.proofs.Bits.{flag-with, in-with, in-without, word-with, word-without, some-flag, some-difference}
 
@@ -53,7 +54,7 @@ pub announced-exactly : (s : Station) (f : ℕ) → Word (s .tx .new) → Word (
 announced-exactly s f hn hp hf = Iff·trans (unequal missing 0) (Iff·trans (some-flag missing (word-without f _ hf)) (names, unnames))
   where
     missing : ℕ
-    missing = f without currentTx (s .tx)
+    missing = unannounced (s .tx) f
 
     alone : (i : ℕ) → i < 32 → (i isIn missing) ↔ ((i isIn f) × (i isNotIn s .tx .new) × (i isNotIn s .tx .previous))
     alone i h = in-first-alone i f (s .tx .new) (s .tx .previous) h hn hp
@@ -85,6 +86,10 @@ module _ (s : Station) (opcode : ℕ) (f : Frame) where
       tells : (b : Bool) → ltb 1 opcode ≡ b → received s opcode f .number ≡ 30 → 1 < opcode
       tells true e n = ltb-true 1 opcode e
       tells false e n = let z : _≡_ {A = ℕ} 0 30 = rw e at n in absurd (omega arith)
+
+  -- and then nothing is changed, sent or reported, and the timer is kept
+  pub untouched : 1 < opcode → received s opcode f ≡ refused 30 s
+  untouched h = rw (lt-ltb 1 opcode h)
 
   -- the timer is started exactly if the opcode is 1
   pub requested-exactly : (received s opcode f .timer .starts ≡ true) ↔ (opcode ≡ 1)

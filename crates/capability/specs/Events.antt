@@ -20,18 +20,22 @@ fresh d = record {
 
 -- ---- use of flags f
 
--- some flag of f is in neither NewTx nor PreviousTx
-abbrev pub announced : Tx → ℕ → Bool
-announced t f = some (f without currentTx t)
+-- those of f in neither NewTx nor PreviousTx
+abbrev pub unannounced : Tx → ℕ → ℕ
+unannounced t f = f without currentTx t
 
--- f is added to NewTx
+-- announced exactly if there is one
+abbrev pub announced : Tx → ℕ → Bool
+announced t f = some (unannounced t f)
+
+-- f is added to NewTx, whether announced or not
 abbrev pub addedTx : Tx → ℕ → Tx
 addedTx t f = record { new = t .new with f; previous = t .previous; oldest = t .oldest }
 
 abbrev pub afterUse : Station → ℕ → Station
 afterUse s f = record { default = s .default; tx = addedTx (s .tx) f; rx = s .rx }
 
--- announced exactly if some flag is in neither set, which also starts the timer; added in any case
+-- an announcement carries the sets after that and starts the timer
 abbrev pub used : Station → ℕ → Outcome
 used s f = accepted (afterUse s f) (announced (s .tx) f) 0 (startIf (announced (s .tx) f))
 

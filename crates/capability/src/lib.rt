@@ -3,7 +3,7 @@
 ghost use mathlib.Core.Path.{_≡_};
 ghost use Rattle.capability.specs.Sets.{currentTx, currentRx, carried};
 ghost use Rattle.capability.specs.Answers.{orderOf, orderNumber, startIf, cancelThenStartIf, outcomeOf, answered};
-ghost use Rattle.capability.specs.Events.{fresh, addedTx, rolledTx, rolledRx, takenAway, heardRx, used, ended, received};
+ghost use Rattle.capability.specs.Events.{fresh, unannounced, addedTx, rolledTx, rolledRx, reallyNew, takenAway, heardRx, used, ended, received};
 
 // NewTx, PreviousTx and OldestTx: the flags that the station used in this period, the one before, and the one before that.
 pub struct Tx {
@@ -89,6 +89,13 @@ impl Tx {
         self.new | self.previous
     }
 
+    // Those of the flags that are in neither NewTx nor PreviousTx.
+    fn unannounced(self, flags: u32) -> u32
+        ensures { λ r. ⌜ r ≡ unannounced self flags ⌝ }
+    {
+        flags & !self.current()
+    }
+
     fn added(mut self, flags: u32) -> Tx
         ensures { λ r. ⌜ r ≡ addedTx self flags ⌝ }
     {
@@ -119,6 +126,13 @@ impl Rx {
     {
         let previous = self.new;
         Rx { new: 0, previous }
+    }
+
+    // Those of the frame's flags that are in neither NewRx nor PreviousRx, asked before they are added.
+    fn really_new(self, frame: Frame) -> u32
+        ensures { λ r. ⌜ r ≡ reallyNew self frame ⌝ }
+    {
+        frame.current & !self.current()
     }
 
     fn heard(self, frame: Frame) -> Rx
@@ -177,7 +191,7 @@ impl Station {
     pub fn use_flags(mut self, flags: u32) -> Answer
         ensures { λ r. ⌜ outcomeOf r ≡ used self flags ⌝ }
     {
-        let announced = flags & !self.tx.current() != 0;
+        let announced = self.tx.unannounced(flags) != 0;
         self.tx = self.tx.added(flags);
         self.answer(Station::ACCEPTED, announced, 0, Timer::start_if(announced))
     }
@@ -193,14 +207,14 @@ impl Station {
         self.answer(Station::ACCEPTED, true, 0, timer)
     }
 
-    // A capability frame comes in (001, 6.5.5.2). What is really new goes by the sets before the frame's own flags are added.
+    // A capability frame comes in (001, 6.5.5.2).
     pub fn receive(mut self, opcode: u8, frame: Frame) -> Answer
         ensures { λ r. ⌜ outcomeOf r ≡ received self opcode frame ⌝ }
     {
         if 1 < opcode {
             return self.answer(Station::REFUSED, false, 0, Timer::Kept);
         }
-        let new = frame.current & !self.rx.current();
+        let new = self.rx.really_new(frame);
         self.rx = self.rx.heard(frame);
         self.answer(Station::ACCEPTED, false, new, Timer::start_if(opcode == 1))
     }

@@ -11,8 +11,8 @@ answer-requires c κs = search needs
 returns : tie.Need-returns
 returns c = c .answer .ensures ∙ rw (lt-ltb 1 _ (c .before .if1 .taken))
 
-current-requires : tie.Need-current-requires
-current-requires c κs = search needs
+really-new-requires : tie.Need-really-new-requires
+really-new-requires c κs = search needs
 
 heard-requires : tie.Need-heard-requires
 heard-requires c κs = search needs
@@ -26,7 +26,7 @@ answer-requires-2 c κs = search needs
 returns-2 : tie.Need-returns-2
 returns-2 c =
     c .answer2 .ensures
-    ∙ rw (c .before .start-if .ensures, c .before .before .heard .ensures, c .before .before .before .before .current .ensures, le-ltb 1 _ (c .before .before .before .before .before .if1 .left))
+    ∙ rw (c .before .start-if .ensures, c .before .before .heard .ensures, c .before .before .before .really-new .ensures, le-ltb 1 _ (c .before .before .before .before .if1 .left))
 
 pub receive-spec : {M : Type 1} → statement M
 receive-spec =
@@ -34,7 +34,7 @@ receive-spec =
     (tie.spec
     answer-requires
     returns
-    current-requires
+    really-new-requires
     heard-requires
     start-if-requires
     answer-requires-2

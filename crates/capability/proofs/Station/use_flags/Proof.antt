@@ -4,8 +4,8 @@ use borrow.Author.Needs.{needs}
 use Rattle.capability.proofs.Station.use_flags.Statement.{statement}
 use Rattle.capability.proofs.Station.use_flags.Tie as tie
 
-current-requires : tie.Need-current-requires
-current-requires c κs = search needs
+unannounced-requires : tie.Need-unannounced-requires
+unannounced-requires c κs = search needs
 
 added-requires : tie.Need-added-requires
 added-requires c κs = search needs
@@ -19,9 +19,9 @@ answer-requires c κs = search needs
 returns : tie.Need-returns
 returns c =
     c .answer .ensures
-    ∙ rw (c .before .start-if .ensures, c .before .before .added .ensures, c .before .before .before .current .ensures)
+    ∙ rw (c .before .start-if .ensures, c .before .before .added .ensures, c .before .before .before .unannounced .ensures)
 
 pub use-flags-spec : {M : Type 1} → statement M
 use-flags-spec =
     tie.close
-    (tie.spec current-requires added-requires start-if-requires answer-requires returns)
+    (tie.spec unannounced-requires added-requires start-if-requires answer-requires returns)
