@@ -1,0 +1,6 @@
+pub mod Settled
+pub mod Bits
+pub mod Flags
+pub mod Formulas
+pub mod Aging
+pub mod Instance

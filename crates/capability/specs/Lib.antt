@@ -1,0 +1,5 @@
+pub mod Sets
+pub mod Answers
+pub mod Events
+pub mod Flags
+pub mod Run

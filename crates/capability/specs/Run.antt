@@ -1,0 +1,50 @@
+-- Events of one station in a row, and how long a flag stays announced.
+-- Document 01, 'Capability sets'; 001, 6.5.2 (one to two minutes after the last use) and 6.5.4.
+use Prim.Native.Nat.{ℕ, suc, _≤_}
+use mathlib.Core.Path.{_≡_}
+use mathlib.Core.Logic.{_↔_}
+use mathlib.Core.List.{List, [], _∷_}
+use Rattle.capability.specs.declared.Frame.{Frame}
+use Rattle.capability.specs.declared.Station.{Station}
+use Rattle.capability.specs.Sets.{currentTx}
+use Rattle.capability.specs.Answers.{Outcome}
+use Rattle.capability.specs.Events.{used, ended, received}
+use Rattle.capability.specs.Flags.{_isIn_, _isNotIn_}
+
+pub data Event : Type 0 where
+  useOf : ℕ → Event
+  periodEnd : Event
+  frameWith : ℕ → Frame → Event
+
+abbrev pub outcome : Station → Event → Outcome
+outcome s (useOf f) = used s f
+outcome s periodEnd = ended s
+outcome s (frameWith opcode f) = received s opcode f
+
+-- the station after a run of events
+unfoldable pub run : Station → List Event → Station
+run s [] = s
+run s (e ∷ es) = run (outcome s e .station) es
+
+-- how many period ends a run has
+unfoldable pub periodEnds : List Event → ℕ
+periodEnds [] = 0
+periodEnds (periodEnd ∷ es) = suc (periodEnds es)
+periodEnds (useOf f ∷ es) = periodEnds es
+periodEnds (frameWith opcode f ∷ es) = periodEnds es
+
+-- each use in a run is of flags of which this holds
+unfoldable pub EachUse : (ℕ → Type 0) → List Event → Type 0
+EachUse P [] = Unit
+EachUse P (periodEnd ∷ es) = EachUse P es
+EachUse P (useOf f ∷ es) = P f × EachUse P es
+EachUse P (frameWith opcode f ∷ es) = EachUse P es
+
+-- how a flag ages that a station used before a run of events
+pub record Ages (i f : ℕ) (s : Station) (es : List Event) : Type 0 where
+  -- it is in CurrentTx for this period and the next
+  pub stays : periodEnds es ≤ 1 → i isIn currentTx (run s (useOf f ∷ es) .tx)
+  -- after two period ends without use it is gone, unless it is in the default set
+  pub goes : 2 ≤ periodEnds es → EachUse (λ g. i isNotIn g) es → (i isIn currentTx (run s (useOf f ∷ es) .tx)) ↔ (i isIn s .default)
+  -- and the frames of that period say so: it is in their OldestTx
+  pub told : periodEnds es ≡ 2 → i isIn run s (useOf f ∷ es) .tx .oldest
