@@ -7,3 +7,6 @@ pub mod Within
 pub mod Octets
 pub mod Over
 pub mod Laid
+pub mod AllBelow
+pub mod Table
+pub mod Parts

@@ -13,7 +13,7 @@ pub use laying::lay;
 pub use short::ethertype_right;
 pub use short::next_ethertype_zero;
 ghost use mathlib.Core.Path.{_≡_};
-ghost use mathlib.Core.Bool.{cond};
+ghost use mathlib.Core.Bool.{cond, _&&_};
 ghost use Prim.Native.Nat.{_+_};
 ghost use lib.Dec.{leb};
 ghost use Rattle.wire.specs.Octets.{octetAt, sixAt, within, OwnPart};
@@ -40,6 +40,13 @@ pub fn six(s: &[u8], at: usize) -> [u8; 6]
         octet(s, at + 4),
         octet(s, at + 5),
     ]
+}
+
+// Whether a number lies between two others, both of them included.
+pub fn between(n: usize, least: usize, most: usize) -> bool
+    ensures { λ r. ⌜ r ≡ (leb least n && leb n most) ⌝ }
+{
+    least <= n && n <= most
 }
 
 // Whether so many octets from a place on lie within a length. The sum could pass the largest number, the difference cannot.

@@ -1,0 +1,4 @@
+pub mod Accepted
+pub mod Frame
+pub mod Writable
+pub mod Tabled

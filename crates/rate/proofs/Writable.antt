@@ -1,0 +1,67 @@
+-- What an accepted request to write has: each test passed, what number 23 leaves, and the writer's answer with the output that goes with it.
+-- Assumes nothing.
+use mathlib.Core.Path.{_≡_, refl, _∙_, sym, ap}
+use mathlib.Core.Bool.{Bool, true, false, _&&_}
+use mathlib.Core.List.{List, _++_}
+use Prim.Native.Nat.{ℕ, _+_, _*_, _%_, _≤_, _<_}
+use borrow.Author.Tests.{leb-true, eqb-true}
+use lib.Dec.{leb, eqb, lit<}
+use lib.ListN.{length, drop}
+use Rattle.wire.specs.Refusals.{first}
+use Rattle.wire.proofs.First.{test}
+use Rattle.wire.proofs.Answered.{all-pass, first-accepts, first-refuses}
+use Rattle.wire.proofs.Joined.{and-left, and-right}
+use Rattle.rate.specs.declared.Request.{Request}
+use Rattle.rate.specs.declared.Written.{Written}
+use Rattle.rate.specs.Writing.{ssLengthFor, absentBandEmpty, layoutHolds, outputHolds, frameFor, writerRefusals, Wrote}
+
+pub record Layout (q : Request) (a : List ℕ) : Type 0 where
+  pub whole : length a % 6 ≡ 0
+  pub two : q .bands ≤ 2
+  pub empty : absentBandEmpty q ≡ true
+  pub short : ssLengthFor q a ≤ 255
+
+pub layout : (q : Request) (a : List ℕ) → layoutHolds q a ≡ true → Layout q a
+unfolding layoutHolds
+layout q a e =
+    let whole : Bool = eqb (length a % 6) 0 in
+    let two : Bool = leb (q .bands) 2 in
+    let short : Bool = leb (ssLengthFor q a) 255 in
+    let rest = and-right whole (two && (absentBandEmpty q && short)) e in
+    let last = and-right two (absentBandEmpty q && short) rest in
+    record {
+      whole = eqb-true (length a % 6) 0 (and-left whole (two && (absentBandEmpty q && short)) e);
+      two = leb-true (q .bands) 2 (and-left two (absentBandEmpty q && short) rest);
+      empty = and-left (absentBandEmpty q) short last;
+      short = leb-true (ssLengthFor q a) 255 (and-right (absentBandEmpty q) short last);
+    }
+
+module _ (q : Request) (a : List ℕ) (room : ℕ) (none : first (writerRefusals q a room) ≡ 0) where
+  pub may-write : (k : ℕ) → k < length (writerRefusals q a room) → test (writerRefusals q a room) k .passes ≡ true
+  unfolding writerRefusals
+  may-write k h = all-pass (writerRefusals q a room) refl none k h
+
+  pub may-layout : Layout q a
+  unfolding writerRefusals
+  may-layout = layout q a (may-write 2 (lit< tt))
+
+  pub may-fit : length (frameFor q a) ≤ room
+  unfolding writerRefusals outputHolds
+  may-fit = leb-true (length (frameFor q a)) room (may-write 7 (lit< tt))
+
+module _ (q : Request) (a out : List ℕ) where
+  pub wrote-nothing : (n : ℕ) → n ≡ first (writerRefusals q a (length out)) → (n ≡ 0 → ⊥) → Wrote q a out out (record { number = n; count = 0 })
+  wrote-nothing n e h =
+      record {
+        answer = sym (first-refuses (λ k. record { number = k; count = 0 }) _ (writerRefusals q a (length out)) e h);
+        output = sym (first-refuses (λ k. out) _ (writerRefusals q a (length out)) e h);
+      }
+
+  pub wrote-frame : {after : List ℕ} {count : ℕ} → first (writerRefusals q a (length out)) ≡ 0 → count ≡ length (frameFor q a) → after ≡ frameFor q a ++ drop (length (frameFor q a)) out
+      → Wrote q a out after (record { number = 0; count = count })
+  unfolding writerRefusals
+  wrote-frame none n w =
+      record {
+        answer = ap (λ (k : ℕ). record { number = 0; count = k }) n ∙ sym (first-accepts (λ k. record { number = k; count = 0 }) _ (writerRefusals q a (length out)) refl none);
+        output = w ∙ sym (first-accepts (λ k. out) _ (writerRefusals q a (length out)) refl none);
+      }

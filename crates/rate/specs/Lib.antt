@@ -1,0 +1,4 @@
+pub mod Request
+pub mod Reading
+pub mod Writing
+pub mod Rates

@@ -1,0 +1,144 @@
+// The fields of a frame, each with the answer that its row of refusals gives.
+use crate::rules::band_one_right;
+use crate::rules::band_two_right;
+use crate::rules::group_addresses;
+use crate::rules::opcode_right;
+use crate::rules::ranks_right;
+use crate::rules::some_band;
+use wire::Checked;
+use wire::Field;
+ghost use mathlib.Core.Path.{_≡_};
+ghost use mathlib.Core.List.{[], _∷_};
+ghost use Rattle.wire.specs.Octets.{octetAt};
+ghost use Rattle.wire.specs.Refusals.{_else_};
+ghost use Rattle.wire.specs.Answers.{ruled, fieldSays, checkSays};
+ghost use Rattle.wire.specs.ShortFormat.{ethertypeRight, nextEthertypeZero};
+ghost use Rattle.rate.specs.Request.{opcodeRight, someBand, bandOneRight, bandTwoRight, ranksRight, groupAddresses};
+ghost use Rattle.rate.specs.Reading.{lengthFits, ssTypeRight, ssLengthFits, ssVersionRight, opcodeOf, bandsOf, countOf, lengthsAgree, ofBandTwo, addressesOf, pairSays, startOf, extentOf};
+
+// Both ranks at once, since number 20 speaks of the two.
+pub(crate) enum Pair {
+    Ranks(u8, u8),
+    Wrong,
+}
+
+pub(crate) fn length(frame: &[u8]) -> Checked
+    ensures { λ r. ⌜ checkSays 10 r ≡ ruled (lengthFits (now (frame .entry)) else 10) [] ⌝ }
+{
+    wire::right_if(wire::between(frame.len(), 60, 1514))
+}
+
+pub(crate) fn ethertype(frame: &[u8]) -> Checked
+    ensures { λ r. ⌜ checkSays 11 r ≡ ruled (ethertypeRight (now (frame .entry)) else 11) [] ⌝ }
+{
+    wire::right_if(wire::ethertype_right(frame))
+}
+
+pub(crate) fn ss_type(frame: &[u8]) -> Checked
+    ensures { λ r. ⌜ checkSays 12 r ≡ ruled (ssTypeRight (now (frame .entry)) else 12) [] ⌝ }
+{
+    wire::right_if(wire::octet(frame, 14) == 1)
+}
+
+pub(crate) fn ss_length(frame: &[u8]) -> Checked
+    ensures { λ r. ⌜ checkSays 13 r ≡ ruled (ssLengthFits (now (frame .entry)) else 13) [] ⌝ }
+{
+    let length = wire::octet(frame, 15) as usize;
+    if length < 8 {
+        return Checked::Wrong;
+    }
+    wire::right_if(wire::lies_within(frame.len(), 16, length))
+}
+
+pub(crate) fn ss_version(frame: &[u8]) -> Checked
+    ensures { λ r. ⌜ checkSays 14 r ≡ ruled (ssVersionRight (now (frame .entry)) else 14) [] ⌝ }
+{
+    wire::right_if(wire::octet(frame, 16) == 0)
+}
+
+pub(crate) fn opcode(frame: &[u8]) -> Field
+    ensures { λ r. ⌜ fieldSays 15 r ≡ ruled (opcodeRight (opcodeOf (now (frame .entry))) else 15) (opcodeOf (now (frame .entry)) ∷ []) ⌝ }
+{
+    let opcode = wire::octet(frame, 17);
+    wire::value_if(opcode_right(opcode), opcode)
+}
+
+pub(crate) fn bands(frame: &[u8]) -> Field
+    ensures { λ r. ⌜ fieldSays 16 r ≡ ruled (someBand (bandsOf (now (frame .entry))) else 16) (bandsOf (now (frame .entry)) ∷ []) ⌝ }
+{
+    let bands = wire::octet(frame, 18);
+    wire::value_if(some_band(bands), bands)
+}
+
+pub(crate) fn addresses(frame: &[u8]) -> Field
+    ensures { λ r. ⌜ fieldSays 17 r ≡ ruled (lengthsAgree (now (frame .entry)) else 17) (countOf (now (frame .entry)) ∷ []) ⌝ }
+{
+    let count = wire::octet(frame, 19);
+    let length = wire::octet(frame, 15) as usize;
+    let counted = 6 + 2 * wire::octet(frame, 18) as usize + 6 * count as usize;
+    wire::value_if(length == counted, count)
+}
+
+pub(crate) fn band_one(frame: &[u8]) -> Field
+    ensures { λ r. ⌜ fieldSays 18 r ≡ ruled (bandOneRight (octetAt (now (frame .entry)) 20) else 18) (octetAt (now (frame .entry)) 20 ∷ []) ⌝ }
+{
+    let pe = wire::octet(frame, 20);
+    wire::value_if(band_one_right(pe), pe)
+}
+
+pub(crate) fn band_two(frame: &[u8]) -> Field
+    ensures { λ r. ⌜ fieldSays 19 r ≡ ruled (bandTwoRight (bandsOf (now (frame .entry))) (ofBandTwo (now (frame .entry)) 22) else 19) (ofBandTwo (now (frame .entry)) 22 ∷ []) ⌝ }
+{
+    let pe = of_band_two(frame, 22);
+    wire::value_if(band_two_right(wire::octet(frame, 18), pe), pe)
+}
+
+pub(crate) fn ranks(frame: &[u8]) -> Pair
+    ensures { λ r. ⌜ pairSays 20 r ≡ ruled (ranksRight (bandsOf (now (frame .entry))) (octetAt (now (frame .entry)) 21) (ofBandTwo (now (frame .entry)) 23) else 20) (octetAt (now (frame .entry)) 21 ∷ ofBandTwo (now (frame .entry)) 23 ∷ []) ⌝ }
+{
+    let rank1 = wire::octet(frame, 21);
+    let rank2 = of_band_two(frame, 23);
+    if ranks_right(wire::octet(frame, 18), rank1, rank2) {
+        Pair::Ranks(rank1, rank2)
+    } else {
+        Pair::Wrong
+    }
+}
+
+pub(crate) fn groups(frame: &[u8]) -> Checked
+    ensures { λ r. ⌜ checkSays 21 r ≡ ruled (groupAddresses (addressesOf (now (frame .entry))) else 21) [] ⌝ }
+{
+    let octets = wire::part(frame, start(frame), extent(frame));
+    wire::right_if(group_addresses(octets))
+}
+
+pub(crate) fn next_ethertype(frame: &[u8]) -> Checked
+    ensures { λ r. ⌜ checkSays 22 r ≡ ruled (nextEthertypeZero (now (frame .entry)) else 22) [] ⌝ }
+{
+    wire::right_if(wire::next_ethertype_zero(frame))
+}
+
+// Where the addresses start: bands past the second are skipped unread.
+pub(crate) fn start(frame: &[u8]) -> usize
+    ensures { λ r. ⌜ r ≡ startOf (now (frame .entry)) ⌝ }
+{
+    20 + 2 * wire::octet(frame, 18) as usize
+}
+
+// How many octets hold the addresses.
+pub(crate) fn extent(frame: &[u8]) -> usize
+    ensures { λ r. ⌜ r ≡ extentOf (now (frame .entry)) ⌝ }
+{
+    6 * wire::octet(frame, 19) as usize
+}
+
+// An octet of band 2, or 0 where there is no band 2.
+fn of_band_two(frame: &[u8], at: usize) -> u8
+    ensures { λ r. ⌜ r ≡ ofBandTwo (now (frame .entry)) at ⌝ }
+{
+    if 2 <= wire::octet(frame, 18) {
+        wire::octet(frame, at)
+    } else {
+        0
+    }
+}

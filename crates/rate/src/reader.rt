@@ -1,0 +1,115 @@
+// The reader: the refusals 10 to 22 in their order, then the request and the octets that hold its addresses.
+use crate::Reading;
+use crate::Request;
+use crate::fields;
+use crate::fields::Pair;
+use wire::Checked;
+use wire::Field;
+ghost use mathlib.Core.Path.{_≡_};
+ghost use lib.ListN.{take, drop};
+ghost use Rattle.wire.specs.Refusals.{first, answered};
+ghost use Rattle.rate.specs.Reading.{refusals, refusedBy, accepted, readOf};
+
+pub fn read(frame: &[u8]) -> Reading
+    ensures { λ r. ⌜ r ≡ readOf (now (frame .entry)) ⌝ }
+{
+    let number = departs(frame);
+    if number != 0 {
+        return refused(number);
+    }
+    request(frame)
+}
+
+// The number of the first refusal among 10 to 14, or 0: whether the frame is a rate request of version 0 at all.
+fn departs(frame: &[u8]) -> u8
+    ensures { λ r. ⌜ r ≡ first (take 5 (refusals (now (frame .entry)))) ⌝ }
+{
+    let Checked::Right = fields::length(frame) else {
+        return 10;
+    };
+    let Checked::Right = fields::ethertype(frame) else {
+        return 11;
+    };
+    let Checked::Right = fields::ss_type(frame) else {
+        return 12;
+    };
+    let Checked::Right = fields::ss_length(frame) else {
+        return 13;
+    };
+    let Checked::Right = fields::ss_version(frame) else {
+        return 14;
+    };
+    0
+}
+
+// The request of such a frame, or the first refusal among 15 to 22.
+fn request(frame: &[u8]) -> Reading
+    ensures { λ r. ⌜ r ≡ answered refusedBy (drop 5 (refusals (now (frame .entry)))) (accepted (now (frame .entry))) ⌝ }
+{
+    let Field::Value(opcode) = fields::opcode(frame) else {
+        return refused(15);
+    };
+    let Field::Value(bands) = fields::bands(frame) else {
+        return refused(16);
+    };
+    let Field::Value(addresses) = fields::addresses(frame) else {
+        return refused(17);
+    };
+    let Field::Value(pe1) = fields::band_one(frame) else {
+        return refused(18);
+    };
+    let Field::Value(pe2) = fields::band_two(frame) else {
+        return refused(19);
+    };
+    let Pair::Ranks(rank1, rank2) = fields::ranks(frame) else {
+        return refused(20);
+    };
+    let Checked::Right = fields::groups(frame) else {
+        return refused(21);
+    };
+    let Checked::Right = fields::next_ethertype(frame) else {
+        return refused(22);
+    };
+    let destination = wire::six(frame, 0);
+    let source = wire::six(frame, 6);
+    let request = Request {
+        destination,
+        source,
+        opcode,
+        bands,
+        pe1,
+        rank1,
+        pe2,
+        rank2,
+    };
+    Reading {
+        number: 0,
+        request,
+        addresses,
+        start: fields::start(frame),
+        extent: fields::extent(frame),
+    }
+}
+
+// A refusal gives its number, all fields 0 and no octets.
+fn refused(number: u8) -> Reading
+    ensures { λ r. ⌜ r ≡ refusedBy number ⌝ }
+{
+    let request = Request {
+        destination: [0; 6],
+        source: [0; 6],
+        opcode: 0,
+        bands: 0,
+        pe1: 0,
+        rank1: 0,
+        pe2: 0,
+        rank2: 0,
+    };
+    Reading {
+        number,
+        request,
+        addresses: 0,
+        start: 0,
+        extent: 0,
+    }
+}
