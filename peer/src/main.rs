@@ -20,9 +20,12 @@ enum Order {
 fn main() -> ExitCode {
     let words: Vec<String> = std::env::args().skip(1).collect();
     let words: Vec<&str> = words.iter().map(String::as_str).collect();
-    let Some(order) = order(&words) else {
-        eprintln!("{USAGE}");
-        return ExitCode::from(2);
+    let order = match order(&words) {
+        Some(order) => order,
+        None => {
+            eprintln!("{USAGE}");
+            return ExitCode::from(2);
+        }
     };
     match carry_out(&order) {
         Ok(()) => ExitCode::SUCCESS,

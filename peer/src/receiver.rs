@@ -77,17 +77,17 @@ impl Table {
         refuse(1, buffers.some_too_short())?;
         refuse(2, !ring::is_number(s))?;
         refuse(3, key.priority > 7)?;
-        let Some(record) = self.record_of_mut(key) else {
-            let place = self.first_free().ok_or(5)?;
-            self.open(place, *key, Record::opened(s, time));
-            return Ok(Answer {
-                up: vec![handle],
-                ..Answer::default()
-            });
-        };
-        refuse(6, record.is_broken())?;
-        refuse(7, time < record.latest)?;
-        Ok(record.data(time, s, handle))
+        match self.channel_of(key) {
+            Some(_) => Ok(self.record_for(key, time)?.data(time, s, handle)),
+            None => {
+                let place = self.first_free().ok_or(5)?;
+                self.open(place, *key, Record::opened(s, time));
+                Ok(Answer {
+                    up: vec![handle],
+                    ..Answer::default()
+                })
+            }
+        }
     }
 
     /// A reminder.

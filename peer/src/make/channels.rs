@@ -71,7 +71,7 @@ impl Channels {
                 self.data_at(random, d)
             }
             Mood::Starve => {
-                let starved = self.record().is_some_and(|record| record.span() > 0);
+                let starved = matches!(self.record(), Some(record) if record.span() > 0);
                 self.data_at(random, if starved { 1 } else { 2 })
             }
             Mood::Crest => self.crest(random),
@@ -154,9 +154,12 @@ impl Channels {
 
     fn fill(&mut self, random: &mut Random) -> ChannelEvent {
         let missing = self.numbers(|cell| matches!(cell, Cell::Missing(_)));
-        let (Some(&first), Some(&last)) = (missing.first(), missing.last()) else {
-            let d = random.between(1, 8) as i64;
-            return self.data_at(random, d);
+        let (first, last) = match (missing.first(), missing.last()) {
+            (Some(&first), Some(&last)) => (first, last),
+            _ => {
+                let d = random.between(1, 8) as i64;
+                return self.data_at(random, d);
+            }
         };
         let any = random.pick(&missing);
         let number = random.weighted(&[(2, first), (1, last), (3, any)]);

@@ -48,8 +48,9 @@ pub fn later(random: &mut Random, latest: u64) -> u64 {
 /// A time at the edge of what a tick gives up: 149, 150 or 151 after some number was first known missing.
 pub fn edge_of_patience(random: &mut Random, record: &Record) -> u64 {
     let times: Vec<u64> = record.missing_times().collect();
-    let (Some(&first), Some(&last)) = (times.first(), times.last()) else {
-        return later(random, record.latest);
+    let (first, last) = match (times.first(), times.last()) {
+        (Some(&first), Some(&last)) => (first, last),
+        _ => return later(random, record.latest),
     };
     let any = random.pick(&times);
     let since = random.pick(&[first, first, last, any]);

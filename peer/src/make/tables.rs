@@ -198,8 +198,9 @@ pub fn call(random: &mut Random, slices: &Slices<'_>) -> (Buffers, ChannelEvent)
 }
 
 fn number_and_time(random: &mut Random, record: Option<&Record>) -> (u16, u64) {
-    let Some(record) = record else {
-        return (numbers::opening(random), numbers::opening_time(random));
+    let record = match record {
+        Some(record) => record,
+        None => return (numbers::opening(random), numbers::opening_time(random)),
     };
     let edge = random.pick(&numbers::EDGES);
     let behind = -(random.below(34) as i64);

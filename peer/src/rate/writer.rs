@@ -27,7 +27,7 @@ pub fn write(request: &Request, addresses: &[u8], output: &mut [u8]) -> Result<u
 /// 23: address octets not a multiple of 6, or more than two bands, or one band and a band 2 not PE 0, rank 0, or
 /// SSLength would exceed 255.
 fn cannot_be_written(request: &Request, addresses: &[u8]) -> bool {
-    !addresses.len().is_multiple_of(6)
+    addresses.len() % 6 != 0
         || request.num_bands > 2
         || (request.num_bands == 1 && request.band_2 != Band::default())
         || ss_length_for(request.num_bands.into(), addresses.len() / 6) > LARGEST_SS_LENGTH

@@ -57,9 +57,9 @@ struct Fields<'a>(&'a [u8]);
 
 impl Fields<'_> {
     fn octets<const COUNT: usize>(&mut self) -> Option<[u8; COUNT]> {
-        let (front, rest) = self.0.split_first_chunk::<COUNT>()?;
-        self.0 = rest;
-        Some(*front)
+        let front = self.0.get(..COUNT)?;
+        self.0 = &self.0[COUNT..];
+        front.try_into().ok()
     }
 
     fn octet(&mut self) -> Option<u8> {

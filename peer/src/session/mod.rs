@@ -82,8 +82,9 @@ pub fn answer(stream: &[u8], output: &mut impl Write) -> io::Result<()> {
                 body
             }
         };
-        let Some(event) = Event::from_body(body) else {
-            return writeln!(output, "{index} unreadable");
+        let event = match Event::from_body(body) {
+            Some(event) => event,
+            None => return writeln!(output, "{index} unreadable"),
         };
         writeln!(output, "{index} {}", session.answer(&event))?;
     }
