@@ -1,2 +1,4 @@
 pub mod Place
 pub mod Call
+pub mod Slots
+pub mod Steps

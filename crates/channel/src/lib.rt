@@ -1,4 +1,6 @@
 // One place of the table: the four events on one open channel, in place.
+mod record;
+mod window;
 
 // What a call answers: the number, how many entries of each buffer it wrote, and how many numbers it gave up.
 #[repr(C)]
