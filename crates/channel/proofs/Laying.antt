@@ -7,7 +7,7 @@ use native.Mathlib.Omega.{arith}
 use native.Mathlib.Nat.{zero-add, add-zero}
 use native.Mathlib.Numerals.{add-one}
 use lib.ListN.{length, set, drop, length-append}
-use lib.Seq.{sets, sets-eq}
+use lib.Seq.{sets, sets-eq, length-sets}
 use Rattle.channel.specs.Call.{Wrote}
 use Rattle.channel.specs.Slots.{Laid}
 
@@ -21,6 +21,9 @@ sets-sets [] y l at = ap (λ (i : ℕ). sets l i y) (add-zero at)
 sets-sets (v ∷ x) y l at =
     let e : at + suc (length x) ≡ suc at + length x = omega arith in
     ap (λ (i : ℕ). sets (sets (set l at v) (suc at) x) i y) e ∙ sets-sets x y (set l at v) (suc at)
+
+pub laid-length : {x before after : List ℕ} {at end : ℕ} → Laid x at before after end → length after ≡ length before
+laid-length {x} {before} {after} {at} p = ap length (p .buffer) ∙ length-sets before at x
 
 pub laid-laid : {x y before between after : List ℕ} {at mid end : ℕ} → Laid x at before between mid → Laid y mid between after end
     → Laid (x ++ y) at before after end

@@ -1,6 +1,14 @@
+pub mod Rounds
 pub mod Windows
 pub mod Laying
 pub mod Waiting
 pub mod Stamping
 pub mod Ordering
 pub mod Settling
+pub mod Walks
+pub mod Asking
+pub mod Cells
+pub mod Places
+pub mod Appending
+pub mod Growing
+pub mod StepAhead

@@ -11,7 +11,8 @@ use Rattle.ring.specs.Ring.{next}
 use Rattle.larq.specs.Channel.{Cell, waits, missing, waiting}
 use Rattle.channel.specs.Place.{window, cellAt}
 use Rattle.channel.specs.Slots.{waitingOf, Laid}
-use Rattle.channel.proofs.Windows.{window-none, window-suc, cell-waits, cell-missing}
+use Rattle.channel.proofs.Windows.{window-none, window-suc, length-window, cell-waits, cell-missing}
+use Rattle.channel.proofs.Walks.{waiting-few}
 use Rattle.channel.proofs.Laying.{sets-more}
 
 -- the words of a place have no part in it
@@ -25,6 +26,11 @@ waiting-window words handles marks m (suc n) = by-mark (eqb (getD marks (m % 32)
         ≡ waiting (cond b (missing 0) (waits (getD handles (m % 32) 0)) ∷ window (cellAt [] handles marks) (next m) n)
     by-mark true i = i
     by-mark false i = ap (λ l. getD handles (m % 32) 0 ∷ l) i
+
+-- there are no more of them than numbers
+pub waiting-short : (handles marks : List ℕ) (m n : ℕ) → length (waitingOf handles marks m n) ≤ n
+waiting-short handles marks m n =
+    omega (arith, waiting-few (window (cellAt [] handles marks) m n), length-window (cellAt [] handles marks) m n)
 
 -- What the loop keeps: what is still to be laid from here is what was to be laid from the start.
 pub record Lays (h k : List ℕ) (m n at : ℕ) (before out : List ℕ) (to i left : ℕ) : Type 0 where

@@ -1,5 +1,5 @@
 -- The window as a list of cells, read through a function from slot to cell: how it splits, and what a change of slots makes of it.
--- Numbers less than 32 apart have different slots. Assumes nothing.
+-- Assumes nothing.
 use Prim.Native.Nat.{ℕ, zero, suc, _+_, _-_, _%_, _≤_, _<_}
 use mathlib.Core.Path.{_≡_, refl, ap, ap₂, sym, _∙_}
 use mathlib.Core.List.{List, [], _∷_, _++_}
@@ -10,22 +10,7 @@ use borrow.Author.Tests.{eq-eqb, ne-eqb}
 use Rattle.ring.specs.Ring.{size, forward, next}
 use Rattle.larq.specs.Channel.{Cell, waits, missing}
 use Rattle.channel.specs.Place.{window, cellAt}
-
--- Steps along the ring, and the slots that they lead to.
-pub forward-none : (m : ℕ) → m < size → forward m 0 ≡ m
-forward-none m h = omega arith
-
-pub forward-next : (m j : ℕ) → forward (next m) j ≡ forward m (suc j)
-forward-next m j = omega arith
-
-pub slot-next : (m j : ℕ) → (next m + j) % 32 ≡ (m + suc j) % 32
-slot-next m j = omega arith
-
-pub slot-none : (m : ℕ) → m % 32 ≡ (m + 0) % 32
-slot-none m = omega arith
-
-pub slots-apart : (m j k : ℕ) → j < k → k < j + 32 → ((m + j) % 32 ≡ (m + k) % 32 → ⊥)
-slots-apart m j k p q = omega arith
+use Rattle.channel.proofs.Rounds.{forward-none, forward-next, slot-none, slot-next, slots-apart}
 
 module _ (f : ℕ → Cell ℕ) where
   pub window-none : (m n : ℕ) → n ≡ 0 → window f m n ≡ []
@@ -56,11 +41,12 @@ module _ (f : ℕ → Cell ℕ) where
       let e : suc n - suc j ≡ n - j = omega arith in
       rw e (drop-window j (next m) n (omega arith) ∙ ap (λ x. window f x (n - j)) (forward-next m j))
 
-  pub take-window : (j m n : ℕ) → j ≤ n → take j (window f m n) ≡ window f m j
+  pub take-window : (j m n : ℕ) → take j (window f m n) ≡ window f m (j - (j - n))
   unfolding window
-  take-window zero m n h = refl
-  take-window (suc j) m zero h = absurd (let z : ⊥ = omega arith in z)
-  take-window (suc j) m (suc n) h = ap (λ l. f (m % 32) ∷ l) (take-window j (next m) n (omega arith))
+  take-window zero m n = ap (window f m) (let e : 0 ≡ 0 - (0 - n) = omega arith in e)
+  take-window (suc j) m zero = ap (window f m) (let e : 0 ≡ suc j - (suc j - 0) = omega arith in e)
+  take-window (suc j) m (suc n) =
+      let e : suc j - (suc j - suc n) ≡ suc (j - (j - n)) = omega arith in rw e (ap (λ l. f (m % 32) ∷ l) (take-window j (next m) n))
 
   pub window-at : (m n i : ℕ) (d : Cell ℕ) → i < n → getD (window f m n) i d ≡ f ((m + i) % 32)
   unfolding window

@@ -1,4 +1,5 @@
 // One place of the table: the four events on one open channel, in place.
+mod act;
 mod record;
 mod window;
 

@@ -1,16 +1,34 @@
 // A channel's record by value: C, M and the latest time. Its cells stay in the lent parts (document 01, 'The channel table').
 ghost use mathlib.Core.Path.{_≡_};
-ghost use Prim.Native.Nat.{_<_};
+ghost use Prim.Native.Nat.{_-_, _<_};
 ghost use lib.ListN.{length, set};
 ghost use Rattle.ring.specs.Ring.{forward, next};
 ghost use Rattle.channel.specs.Place.{spanOf};
-ghost use Rattle.channel.specs.Steps.{headed};
+ghost use Rattle.channel.specs.Steps.{headed, IsGrown};
+use larq::WINDOW;
 use ring::Seq;
 
 pub(crate) struct Record {
     pub(crate) current: Seq,
     pub(crate) oldest: Seq,
     pub(crate) latest: u64,
+}
+
+// What a step ahead does to the window: M passes `over` numbers, of which `old` are in the window and the others would be new;
+// `count` numbers from `first` on become missing.
+pub(crate) struct Grown {
+    pub(crate) kept: Record,
+    pub(crate) over: usize,
+    pub(crate) old: u16,
+    pub(crate) first: Seq,
+    pub(crate) count: u16,
+}
+
+// By how much a exceeds b, or 0.
+fn excess(a: u16, b: u16) -> u16
+    ensures { λ r. ⌜ r ≡ a - b ⌝ }
+{
+    if b < a { a - b } else { 0 }
 }
 
 impl Record {
@@ -63,5 +81,22 @@ impl Record {
         words[0] = c.0 as u64;
         words[1] = m.0 as u64;
         words[2] = self.latest;
+    }
+
+    // C comes to s at this time, with `made` numbers from C + 1 on missing, and M passes what is then too much for the window.
+    pub(crate) fn grown(self, s: Seq, made: u16, time: u64) -> Grown
+        ensures { λ r. ⌜ IsGrown self (s .0) made time r ⌝ }
+    {
+        let c = self.current;
+        let n = self.span();
+        let over = excess(n + c.steps(s), WINDOW);
+        let past = excess(over, n);
+        Grown {
+            kept: self.arrived(s, time).moved(over),
+            over: over as usize,
+            old: over - past,
+            first: c.forward(1 + past),
+            count: excess(made, past),
+        }
     }
 }
