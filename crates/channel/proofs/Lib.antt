@@ -12,3 +12,4 @@ pub mod Places
 pub mod Appending
 pub mod Growing
 pub mod StepAhead
+pub mod Sounds

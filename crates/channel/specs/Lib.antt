@@ -2,3 +2,4 @@ pub mod Place
 pub mod Call
 pub mod Slots
 pub mod Steps
+pub mod Judge

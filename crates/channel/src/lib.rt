@@ -1,5 +1,6 @@
 // One place of the table: the four events on one open channel, in place.
 mod act;
+mod judge;
 mod record;
 mod window;
 
