@@ -13,3 +13,4 @@ pub mod Appending
 pub mod Growing
 pub mod StepAhead
 pub mod Sounds
+pub mod Judging

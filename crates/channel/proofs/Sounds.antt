@@ -6,7 +6,7 @@ use mathlib.Core.List.{List, [], _∷_}
 use native.Mathlib.Omega.{arith}
 use lib.Dec.{eqb, leb}
 use lib.ListN.{length, getD}
-use borrow.Author.Tests.{le-leb, lt-leb, leb-true, eqb-true, eqb-false}
+use borrow.Author.Tests.{le-leb, lt-leb, leb-true, eq-eqb, eqb-true}
 use Rattle.ring.specs.Ring.{next}
 use Rattle.larq.specs.Channel.{Cell, waits, missing, headMissing, times, orderly, sound}
 use Rattle.larq.specs.Channel as channel
@@ -43,11 +43,11 @@ module _ (c m n : ℕ) (w k : List ℕ) (span : n ≡ spanOf c m) where
         window-suc (cellAt w [] k) m n (omega arith) ∙ rw (cell-missing w [] k (m % 32) (rw at-slot at o)) in
         sym (shape ∙ narrow fits ∙ ap (λ cs. headMissing cs && orderly 0 (getD w 2 0) (timesOf w k m n)) first)
 
-and-left : (a b : Bool) → (a && b) ≡ true → a ≡ true
+pub and-left : (a b : Bool) → (a && b) ≡ true → a ≡ true
 and-left true b e = refl
 and-left false b e = e
 
-and-right : (a b : Bool) → (a && b) ≡ true → b ≡ true
+pub and-right : (a b : Bool) → (a && b) ≡ true → b ≡ true
 and-right true b e = e
 and-right false b e = absurd (false≢true e)
 
@@ -81,3 +81,11 @@ module _ (w k : List ℕ) where
 
   pub sound-shape : sizes ≡ true → inRing w ≡ true → inShape (getD w 0 0) (getD w 1 0) w k ≡ soundAt w k
   sound-shape e f = rw (e, sound-is, f)
+
+  pub sound-by-sizes : length w ≡ 35 → length k ≡ 32 → soundAt w k ≡ sound channel.window (recordOf w [] k)
+  sound-by-sizes e f = rw (eq-eqb (length w) 35 e, eq-eqb (length k) 32 f)
+
+  pub sound-ring-of : soundAt w k ≡ true → (getD w 0 0 < 4096) × (getD w 1 0 < 4096)
+  sound-ring-of e =
+      ring-of (and-left (inRing w) (inShape (getD w 0 0) (getD w 1 0) w k)
+      (sym sound-is ∙ and-right sizes (sound channel.window (recordOf w [] k)) e))

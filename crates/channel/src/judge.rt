@@ -6,7 +6,7 @@ ghost use lib.ListN.{length, getD};
 ghost use Rattle.larq.specs.Channel.{window};
 ghost use Rattle.larq.specs.Table.{lentEnough};
 ghost use Rattle.channel.specs.Place.{soundAt};
-ghost use Rattle.channel.specs.Judge.{lentOf, inRing, inShape, Judges, Lies};
+ghost use Rattle.channel.specs.Judge.{lentOf, inRing, inShape, Judges, LiesAt};
 use crate::record::Record;
 use crate::window::in_order;
 use crate::window::slot;
@@ -83,4 +83,71 @@ pub fn is_sound(words: &[u64], marks: &[u8]) -> bool
         return false;
     }
     read(words).in_shape(words, marks)
+}
+
+// What is decided of an event: the number that refuses it, or the record that it acts on.
+pub(crate) enum Judged {
+    Refused(u8),
+    Open(Record),
+}
+
+// The numbers 1, 2, 6 and 7, in this order. A tick and a close have no number of their own, and give 0.
+pub(crate) fn judge(
+    words: &[u64],
+    marks: &[u8],
+    handles: usize,
+    up: usize,
+    returned: usize,
+    nack: usize,
+    number: u16,
+    time: u64,
+) -> Judged
+    ensures { λ r. ⌜ Judges (lentOf (length (now (words .entry))) handles (length (now (marks .entry))) up returned nack) (now (words .entry)) (now (marks .entry)) number time r ⌝ }
+{
+    if !lent_enough(words.len(), handles, marks.len(), up, returned, nack) {
+        return Judged::Refused(1);
+    }
+    if Seq::SIZE <= number {
+        return Judged::Refused(2);
+    }
+    if !is_sound(words, marks) {
+        return Judged::Refused(6);
+    }
+    if time < words[2] {
+        return Judged::Refused(7);
+    }
+    Judged::Open(read(words))
+}
+
+// Where the number of a frame lies: ahead of C by so many; in the window and missing; waiting already or before M; or far.
+pub(crate) enum Spot {
+    Ahead(u16),
+    Missing,
+    Known,
+    Far,
+}
+
+impl Record {
+    pub(crate) fn spot(self, marks: &[u8], s: Seq) -> Spot
+        requires { ⌜ length (now marks) ≡ 32 ⌝ }
+        ensures { λ r. ⌜ LiesAt self (now (marks .entry)) (s .0) r ⌝ }
+    {
+        let c = self.current;
+        let m = self.oldest;
+        match c.seen(s) {
+            Side::Ahead(d) => Spot::Ahead(d),
+            Side::Behind(_) => {
+                if self.span() <= m.steps(s) {
+                    return Spot::Known;
+                }
+                let j = slot(s);
+                if marks[j] == 0 {
+                    Spot::Missing
+                } else {
+                    Spot::Known
+                }
+            }
+            Side::Far => Spot::Far,
+        }
+    }
 }
