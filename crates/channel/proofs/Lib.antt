@@ -14,3 +14,6 @@ pub mod Growing
 pub mod StepAhead
 pub mod Sounds
 pub mod Judging
+pub mod Filling
+pub mod StepBehind
+pub mod Restarting

@@ -33,6 +33,14 @@ pub record Answered (rule : Outcome ℕ) (before after : Buffers) (given : Answe
   pub nack : Wrote (rule .answer .nack) (before .nack) (after .nack) (given .nack)
   pub lost : given .lost ≡ rule .answer .lost
 
+-- an answer, count by count
+pub record Says (n u r q l : ℕ) (given : Answer) : Type 0 where
+  pub number : given .number ≡ n
+  pub up : given .up ≡ u
+  pub returned : given .returned ≡ r
+  pub nack : given .nack ≡ q
+  pub lost : given .lost ≡ l
+
 -- the parts of one place
 pub record Parts : Type 0 where
   pub words : List ℕ

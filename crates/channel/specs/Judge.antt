@@ -70,7 +70,7 @@ pub record MissingAt (r : Record) (marks : List ℕ) (s : ℕ) : Type 0 where
 
 pub record KnownAt (r : Record) (marks : List ℕ) (s : ℕ) : Type 0 where
   pub behind : BehindAt (r .current .0) s
-  pub known : (spanIn r ≤ steps (r .oldest .0) s) ⊎ (getD marks (s % 32) 0 ≡ 0 → ⊥)
+  pub known : (spanIn r ≤ steps (r .oldest .0) s) ⊎ ((steps (r .oldest .0) s < spanIn r) × (getD marks (s % 32) 0 ≡ 0 → ⊥))
 
 abbrev pub LiesAt : Record → List ℕ → ℕ → Spot → Type 0
 LiesAt r marks s (spot.Ahead d) = seen (reach window) (r .current .0) s ≡ Ahead d

@@ -7,7 +7,9 @@ use lib.Seq.{sets}
 use Rattle.ring.specs.Ring.{forward, steps, rising}
 use Rattle.larq.specs.Channel.{Cell, waits, Channel}
 use Rattle.larq.specs.Settling.{Walked, walk}
-use Rattle.larq.specs.Events.{moved}
+use Rattle.larq.specs.Channel as channel
+use Rattle.larq.specs.Answer.{Outcome}
+use Rattle.larq.specs.Events.{moved, filling, filled}
 use Rattle.channel.specs.Place.{window, cellAt, spanOf, recordWith, recordOf}
 use Rattle.channel.specs.Slots.{earlier, stamped, Laid}
 use Rattle.channel.specs.Call.{Parts}
@@ -100,3 +102,7 @@ pub record Entered (first count time s : ℕ) (last : Last) (before : Parts) (na
   pub handles : after .handles ≡ handlesWith last s (before .handles)
   pub marks : after .marks ≡ marksWith last s (stamped 0 (before .marks) first count 0)
   pub asked : nack′ ≡ sets nack 0 (rising first count)
+
+-- s lies behind, as the rules have it
+abbrev pub filledAt : Channel ℕ → ℕ → ℕ → ℕ → Outcome ℕ
+filledAt c t s h = filled channel.window c t h (filling (c .cells) (steps (c .oldest) s) h)

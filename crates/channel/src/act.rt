@@ -2,13 +2,14 @@
 ghost use mathlib.Core.Path.{_≡_};
 ghost use mathlib.Core.List.{[], _∷_};
 ghost use Prim.Native.Nat.{_+_, _-_, _≤_, _<_};
-ghost use lib.ListN.{length};
+ghost use lib.ListN.{length, set};
 ghost use Rattle.ring.specs.Ring.{steps};
 ghost use Rattle.larq.specs.Channel.{window};
-ghost use Rattle.larq.specs.Events.{ahead};
+ghost use Rattle.larq.specs.Events.{ahead, restarted};
 ghost use Rattle.channel.specs.Place.{spanOf};
-ghost use Rattle.channel.specs.Call.{Did, parts, buffers};
-ghost use Rattle.channel.specs.Steps.{Sized, Ready, recordIn, walkOf, Finished, cellsOf, handlesWith, marksWith, Entered, IsAhead};
+ghost use Rattle.channel.specs.Call.{Did, Says, parts, buffers};
+ghost use Rattle.channel.specs.Steps.{Sized, Ready, recordIn, walkOf, Finished, cellsOf, handlesWith, marksWith, Entered, IsAhead, filledAt};
+ghost use Rattle.channel.specs.Judge.{MissingAt};
 use crate::Answer;
 use crate::record::Record;
 use crate::window::hand;
@@ -116,4 +117,49 @@ pub(crate) fn ahead(
         g.over - passed,
         0,
     )
+}
+
+// Number s is in the window and missing: it waits, and M settles.
+pub(crate) fn filled(r: Record, words: &mut [u64], handles: &mut [u32], marks: &mut [u8], up: &mut [u32], s: Seq, handle: u32, time: u64) -> Answer
+    requires { ⌜ Ready r (now words) (now handles) (now marks) × MissingAt r (now marks) (s .0) ⌝ }
+    requires { ⌜ 32 ≤ length (now up) ⌝ }
+    ensures { λ a. ⌜ Did (filledAt (recordIn r (now (words .entry)) (now (handles .entry)) (now (marks .entry))) time (s .0) handle) (parts (now (words .entry)) (now (handles .entry)) (now (marks .entry))) (parts (now (words .exit)) (now (handles .exit)) (now (marks .exit))) (buffers (now (up .entry)) [] []) (buffers (now (up .exit)) [] []) a ⌝ }
+{
+    bring(handles, marks, s, Last::Waits(handle));
+    let kept = r.arrived(r.current, time);
+    settle(kept, words, handles, marks, up, 0, 0, 0, 0)
+}
+
+// Number s waits already or lies before M: its handle comes back, and only the latest time changes.
+pub(crate) fn sent_back(words: &mut [u64], returned: &mut [u32], handle: u32, time: u64) -> Answer
+    requires { ⌜ (2 < length (now words)) × (0 < length (now returned)) ⌝ }
+    ensures { λ a. ⌜ (now (words .exit) ≡ set (now (words .entry)) 2 time) × (now (returned .exit) ≡ set (now (returned .entry)) 0 handle) × Says 0 0 1 0 0 a ⌝ }
+{
+    words[2] = time;
+    returned[0] = handle;
+    Answer {
+        number: 0,
+        up: 0,
+        returned: 1,
+        nack: 0,
+        lost: 0,
+    }
+}
+
+// Number s is far: every waiting handle comes back, and the channel is as one that s has just opened.
+pub(crate) fn restarted(r: Record, words: &mut [u64], handles: &[u32], marks: &[u8], up: &mut [u32], returned: &mut [u32], s: Seq, handle: u32, time: u64) -> Answer
+    requires { ⌜ Ready r (now words) (now handles) (now marks) × (s .0 < 4096) ⌝ }
+    requires { ⌜ (32 ≤ length (now up)) × (32 ≤ length (now returned)) ⌝ }
+    ensures { λ a. ⌜ Did (restarted (recordIn r (now (words .entry)) (now (handles .entry)) (now (marks .entry))) time (s .0) handle) (parts (now (words .entry)) (now (handles .entry)) (now (marks .entry))) (parts (now (words .exit)) (now (handles .entry)) (now (marks .entry))) (buffers (now (up .entry)) (now (returned .entry)) []) (buffers (now (up .exit)) (now (returned .exit)) []) a ⌝ }
+{
+    let count = hand(handles, marks, r.oldest, r.span(), returned, 0);
+    up[0] = handle;
+    Record::opened(s, time).stored(words);
+    Answer {
+        number: 0,
+        up: 1,
+        returned: count,
+        nack: 0,
+        lost: 0,
+    }
 }
