@@ -17,3 +17,6 @@ pub mod Judging
 pub mod Filling
 pub mod StepBehind
 pub mod Restarting
+pub mod Opening
+pub mod Calling
+pub mod Frames

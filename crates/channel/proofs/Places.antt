@@ -9,7 +9,7 @@ use lib.Seq.{getD-set-same, getD-set-other}
 use Rattle.ring.specs.Ring.{size, forward, steps}
 use Rattle.larq.specs.Channel.{Cell, Channel}
 use Rattle.larq.specs.Settling.{Walked, walk}
-use Rattle.larq.specs.Events.{moved}
+use Rattle.larq.specs.Events.{moved, taken}
 use Rattle.channel.specs.Place.{window, cellAt, spanOf, recordWith, recordOf}
 use Rattle.channel.specs.Slots.{earlier}
 use Rattle.channel.specs.Steps.{headed, walkOf, Settles, Finished}
@@ -47,6 +47,15 @@ module _ (w h k : List ℕ) (c m t : ℕ) (sized : 2 < length w) where
       rw (at-current, at-oldest, at-latest)
       (ap (λ cs. record { current = c; oldest = m; latest = t; cells = cs })
       (window-same (cellAt (headed w c m t) h k) (cellAt w h k) m (spanOf c m) (λ j p. rw (at-times ((m + j) % 32)))))
+
+-- only the latest time is laid down
+pub record-taken : (w h k : List ℕ) (t : ℕ) → 2 < length w → recordOf (set w 2 t) h k ≡ taken (recordOf w h k) t
+unfolding recordWith
+record-taken w h k t sized =
+    let times : (i : ℕ) → getD (set w 2 t) (3 + i) 0 ≡ getD w (3 + i) 0 = λ i. getD-set-other w 2 (3 + i) t 0 (λ e. omega arith) in
+    rw (getD-set-other w 2 0 t 0 (λ e. omega arith), getD-set-other w 2 1 t 0 (λ e. omega arith), getD-set-same w 2 t 0 sized)
+    (ap (λ cs. record { current = getD w 0 0; oldest = getD w 1 0; latest = t; cells = cs })
+    (window-same (cellAt (set w 2 t) h k) (cellAt w h k) (getD w 1 0) (spanOf (getD w 0 0) (getD w 1 0)) (λ j p. rw (times ((getD w 1 0 + j) % 32)))))
 
 -- the cells that a walk leaves are the window from the new M on
 pub walk-window : (givesUp : ℕ → ℕ → Bool) (f : ℕ → Cell ℕ) (c m : ℕ) → m < size

@@ -27,7 +27,7 @@ unfolding recordWith
 record-opened w h k s t l =
     record-headed w h k s (next s) t l
     ∙ ap (λ cs. record { current = s; oldest = next s; latest = t; cells = cs })
-      (window-none (cellAt w h k) (next s) (spanOf s (next s)) (no-span s))
+    (window-none (cellAt w h k) (next s) (spanOf s (next s)) (no-span s))
 
 module _ {r : Record} {W H K : List ℕ} (ready : Ready r W H K) where
   -- every waiting handle of the record stands in the buffer
@@ -42,7 +42,7 @@ module _ {r : Record} {W H K : List ℕ} (ready : Ready r W H K) where
       → 32 ≤ length U → 32 ≤ length B → to .current .0 ≡ s → to .oldest .0 ≡ next s → to .latest ≡ t
       → w ≡ headed W (to .current .0) (to .oldest .0) (to .latest)
       → Did (restarted (recordIn r W H K) t s x) (parts W H K) (parts w H K) (buffers U B []) (buffers (set U 0 x) b [])
-        (record { number = 0; up = 1; returned = end; nack = 0; lost = 0 })
+      (record { number = 0; up = 1; returned = end; nack = 0; lost = 0 })
   restarted-did {n} {s} {x} {t} {w} {U} {B} {b} {end} {to} e laid room-up room-returned ec eo el ew =
       record {
         answered = record {

@@ -72,7 +72,7 @@ module _ (w k : List ℕ) where
   pub sound-sizes : sizes ≡ false → false ≡ soundAt w k
   sound-sizes e = rw e
 
-  sound-is : sound channel.window (recordOf w [] k) ≡ (inRing w && inShape (getD w 0 0) (getD w 1 0) w k)
+  pub sound-is : sound channel.window (recordOf w [] k) ≡ (inRing w && inShape (getD w 0 0) (getD w 1 0) w k)
   unfolding sound recordWith
   sound-is = and-assoc (leb (getD w 0 0) 4095) (leb (getD w 1 0) 4095) _
 

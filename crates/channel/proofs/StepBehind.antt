@@ -54,10 +54,10 @@ module _ {r : Record} {W H K : List ℕ} (ready : Ready r W H K) (s x t : ℕ) w
   rule-known at =
       ap (filled channel.window (recordIn r W H K) t x)
       (⊎-elim (λ l. filling-past cells (steps m s) x (rw (length-window (cellAt W H K) m n) l))
-        (λ o.
-            filling-waiting cells (steps m s) (getD H (s % 32) 0) (missing 0) x (within-cells (o .0))
-            (at-steps (o .0) ∙ cell-waits W H K (s % 32) (o .1)))
-        (at .known))
+      (λ o.
+      filling-waiting cells (steps m s) (getD H (s % 32) 0) (missing 0) x (within-cells (o .0))
+      (at-steps (o .0) ∙ cell-waits W H K (s % 32) (o .1)))
+      (at .known))
 
   -- It is missing, and waits from now on.
   module _ (at : MissingAt r K s) where
@@ -75,24 +75,28 @@ module _ {r : Record} {W H K : List ℕ} (ready : Ready r W H K) (s x t : ℕ) w
         window-set (cellAt W H K) (cellAt W H′ K′) m n (steps m s) (ready .narrow) (at .within)
         (λ j o. cell-beside W H K (s % 32) x j (λ e. o (e ∙ sym (slot-steps m s))))
         ∙ ap (set cells (steps m s))
-          (ap (cellAt W H′ K′) (slot-steps m s)
-          ∙ cell-brought W H K (s % 32) x (omega (arith, ready .sized .handles)) (omega (arith, ready .sized .marks)))
+        (ap (cellAt W H′ K′) (slot-steps m s)
+        ∙ cell-brought W H K (s % 32) x (omega (arith, ready .sized .handles)) (omega (arith, ready .sized .marks)))
 
     rule-missing : filledAt (recordIn r W H K) t s x ≡ accepted (again .up) [] [] (again .lost) (holds (moved c t again))
     unfolding recordWith asked
     rule-missing =
         ap (filled channel.window (recordIn r W H K) t x)
         (filling-missing cells (steps m s) (getD W (3 + s % 32) 0) (missing 0) x (within-cells (at .within))
-          (at-steps (at .within) ∙ cell-missing W H K (s % 32) (at .marked))
+        (at-steps (at .within) ∙ cell-missing W H K (s % 32) (at .marked))
         ∙ ap some (sym cells-filled))
         ∙ ap (settledAt (recordIn r W H K) t c 0)
-          (walk-narrow channel.window m (window (cellAt W H′ K′) m n) (rw (length-window (cellAt W H′ K′) m n) (ready .narrow)))
+        (walk-narrow channel.window m (window (cellAt W H′ K′) m n) (rw (length-window (cellAt W H′ K′) m n) (ready .narrow)))
 
     few-up : length (again .up) ≤ 32
     few-up =
-        omega
-        (arith, up-few (earlier 0) m (window (cellAt W H′ K′) m n), waiting-few (window (cellAt W H′ K′) m n), length-window (cellAt W H′ K′) m n,
-        ready .narrow)
+        omega (
+          arith,
+          up-few (earlier 0) m (window (cellAt W H′ K′) m n),
+          waiting-few (window (cellAt W H′ K′) m n),
+          length-window (cellAt W H′ K′) m n,
+          ready .narrow,
+        )
 
     -- The number is brought, and M settles with C where it was.
     module _ {h k : List ℕ} {to : Record} (handles-are : h ≡ H′) (marks-are : k ≡ K′) (to-current : to .current .0 ≡ c)

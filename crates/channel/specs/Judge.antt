@@ -13,6 +13,7 @@ use Rattle.ring.specs.declared.Side.the-variants.{Ahead, Behind, Far}
 use Rattle.larq.specs.Table.{Lent, lentEnough, notBefore}
 use Rattle.channel.specs.Place as place
 use Rattle.channel.specs.Place.{cellAt, spanOf, recordOf, placeSized}
+use Rattle.channel.specs.Call.{Parts, Buffers}
 use Rattle.channel.specs.Steps.{spanIn}
 use Rattle.channel.specs.declared.record.Record.{Record}
 use Rattle.channel.specs.declared.judge.Judged.{Judged}
@@ -41,6 +42,14 @@ abbrev pub common : Lent → ℕ → ℕ → Channel ℕ → List Refusal
 common lent s time c =
     (lentEnough window lent else 1)
     ∷ ((leb s 4095 else 2) ∷ ((sound window c else 6) ∷ ((notBefore time c else 7) ∷ [])))
+
+-- the same of a call's parts and buffers
+abbrev pub lentAt : Parts → Buffers → Lent
+lentAt p b =
+    lentOf (length (p .words)) (length (p .handles)) (length (p .marks)) (length (b .up)) (length (b .returned)) (length (b .nack))
+
+abbrev pub testsAt : Parts → Buffers → ℕ → ℕ → List Refusal
+testsAt p b s time = common (lentAt p b) s time (recordOf (p .words) [] (p .marks))
 
 -- one of them fails, and the number is given
 pub record RefusedBy (tests : List Refusal) (number : ℕ) : Type 0 where

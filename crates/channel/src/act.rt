@@ -120,7 +120,16 @@ pub(crate) fn ahead(
 }
 
 // Number s is in the window and missing: it waits, and M settles.
-pub(crate) fn filled(r: Record, words: &mut [u64], handles: &mut [u32], marks: &mut [u8], up: &mut [u32], s: Seq, handle: u32, time: u64) -> Answer
+pub(crate) fn filled(
+    r: Record,
+    words: &mut [u64],
+    handles: &mut [u32],
+    marks: &mut [u8],
+    up: &mut [u32],
+    s: Seq,
+    handle: u32,
+    time: u64,
+) -> Answer
     requires { ⌜ Ready r (now words) (now handles) (now marks) × MissingAt r (now marks) (s .0) ⌝ }
     requires { ⌜ 32 ≤ length (now up) ⌝ }
     ensures { λ a. ⌜ Did (filledAt (recordIn r (now (words .entry)) (now (handles .entry)) (now (marks .entry))) time (s .0) handle) (parts (now (words .entry)) (now (handles .entry)) (now (marks .entry))) (parts (now (words .exit)) (now (handles .exit)) (now (marks .exit))) (buffers (now (up .entry)) [] []) (buffers (now (up .exit)) [] []) a ⌝ }
@@ -147,7 +156,17 @@ pub(crate) fn sent_back(words: &mut [u64], returned: &mut [u32], handle: u32, ti
 }
 
 // Number s is far: every waiting handle comes back, and the channel is as one that s has just opened.
-pub(crate) fn restarted(r: Record, words: &mut [u64], handles: &[u32], marks: &[u8], up: &mut [u32], returned: &mut [u32], s: Seq, handle: u32, time: u64) -> Answer
+pub(crate) fn restarted(
+    r: Record,
+    words: &mut [u64],
+    handles: &[u32],
+    marks: &[u8],
+    up: &mut [u32],
+    returned: &mut [u32],
+    s: Seq,
+    handle: u32,
+    time: u64,
+) -> Answer
     requires { ⌜ Ready r (now words) (now handles) (now marks) × (s .0 < 4096) ⌝ }
     requires { ⌜ (32 ≤ length (now up)) × (32 ≤ length (now returned)) ⌝ }
     ensures { λ a. ⌜ Did (restarted (recordIn r (now (words .entry)) (now (handles .entry)) (now (marks .entry))) time (s .0) handle) (parts (now (words .entry)) (now (handles .entry)) (now (marks .entry))) (parts (now (words .exit)) (now (handles .entry)) (now (marks .entry))) (buffers (now (up .entry)) (now (returned .entry)) []) (buffers (now (up .exit)) (now (returned .exit)) []) a ⌝ }

@@ -1,10 +1,21 @@
 // One place of the table: the four events on one open channel, in place.
-ghost use Rattle.channel.specs.Call.{Says};
+ghost use Rattle.larq.specs.Events.{frame};
+ghost use Rattle.channel.specs.Call.{Says, Called, parts, buffers};
 
 mod act;
 mod judge;
 mod record;
 mod window;
+
+use crate::act::Last;
+use crate::act::ahead;
+use crate::act::filled;
+use crate::act::restarted;
+use crate::act::sent_back;
+use crate::judge::Judged;
+use crate::judge::Spot;
+use crate::judge::judge;
+use ring::Seq;
 
 // What a call answers: the number, how many entries of each buffer it wrote, and how many numbers it gave up.
 #[repr(C)]
@@ -26,5 +37,53 @@ pub fn refused(number: u8) -> Answer
         returned: 0,
         nack: 0,
         lost: 0,
+    }
+}
+
+// A data frame comes to the open place: it waits, goes up, comes back or restarts the channel.
+pub fn data(
+    words: &mut [u64],
+    handles: &mut [u32],
+    marks: &mut [u8],
+    up: &mut [u32],
+    returned: &mut [u32],
+    nack: &mut [u16],
+    number: u16,
+    handle: u32,
+    time: u64,
+) -> Answer
+    ensures { λ r. ⌜ Called (frame number handle) time (parts (now (words .entry)) (now (handles .entry)) (now (marks .entry))) (parts (now (words .exit)) (now (handles .exit)) (now (marks .exit))) (buffers (now (up .entry)) (now (returned .entry)) (now (nack .entry))) (buffers (now (up .exit)) (now (returned .exit)) (now (nack .exit))) r ⌝ }
+{
+    match judge(
+        words,
+        marks,
+        handles.len(),
+        up.len(),
+        returned.len(),
+        nack.len(),
+        number,
+        time,
+    ) {
+        Judged::Refused(n) => refused(n),
+        Judged::Open(r) => {
+            let s = Seq(number);
+            match r.spot(marks, s) {
+                Spot::Ahead(d) => ahead(
+                    r,
+                    words,
+                    handles,
+                    marks,
+                    up,
+                    nack,
+                    s,
+                    d - 1,
+                    Last::Waits(handle),
+                    time,
+                ),
+                Spot::Missing => filled(r, words, handles, marks, up, s, handle, time),
+                Spot::Known => sent_back(words, returned, handle, time),
+                Spot::Far => restarted(r, words, handles, marks, up, returned, s, handle, time),
+            }
+        }
     }
 }

@@ -21,10 +21,14 @@ settle-requires c κs =
     let a = c .before .before .before .before .before .before .before .before .before .before .before .before .before .before .before .before .args in
     let p = c .before .before .before .before .before .before .before .before .before .before .before .before .before .before .before .before .pre in
     let brought = c .before .before .before .before .before .before .before .before .before .bring .ensures in
-    let to = c .before .before .before .before .arrived .ensures in
-    (brought-sized (p .0 .0) (a .s .0) (a .handle) (a .time) (p .0 .1) (brought .0) (brought .1) (to .0) (to .1) (to .2),
-    (rw (to .1) (p .0 .0 .oldest), omega arith,
-    filled-room (p .0 .0) (a .s .0) (a .handle) (a .time) (p .0 .1) (brought .0) (brought .1) (to .0) (to .1) (to .2) (a .up .now) (p .1)))
+    let to = c .before .before .before .before .arrived .ensures in (
+      brought-sized (p .0 .0) (a .s .0) (a .handle) (a .time) (p .0 .1) (brought .0) (brought .1) (to .0) (to .1) (to .2),
+      (
+        rw (to .1) (p .0 .0 .oldest),
+        omega arith,
+        filled-room (p .0 .0) (a .s .0) (a .handle) (a .time) (p .0 .1) (brought .0) (brought .1) (to .0) (to .1) (to .2) (a .up .now) (p .1),
+      ),
+    )
 
 same-length : tie.Need-same-length
 same-length c = search needs

@@ -58,9 +58,10 @@ returns-4 c =
     record {
       behind = record { by = c .before .before .before .before .before .before .enum-told .given .0 .0; is = sym (c .before .before .before .before .before .before .before .before .seen .ensures) ∙ c .before .before .before .before .before .before .enum-told .given .1 };
       known =
-          inr
-          (rw (c .before .before .before .before .steps .ensures, c .before .before .before .before .before .span .ensures) at (c .before .before .before .if1 .left),
-          rw (c .before .before .slot .ensures) at (c .if2 .left));
+          inr (
+            rw (c .before .before .before .before .steps .ensures, c .before .before .before .before .before .span .ensures) at (c .before .before .before .if1 .left),
+            rw (c .before .before .slot .ensures) at (c .if2 .left),
+          );
     }
 
 returns-5 : tie.Need-returns-5
