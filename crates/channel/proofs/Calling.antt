@@ -47,7 +47,7 @@ head-window w h k m (suc n) = by-mark (eqb (getD k (m % 32) 0) 0)
     by-mark true = refl
     by-mark false = refl
 
-sound-handles : (w h k : List ℕ) → sound channel.window (recordOf w h k) ≡ sound channel.window (recordOf w [] k)
+pub sound-handles : (w h k : List ℕ) → sound channel.window (recordOf w h k) ≡ sound channel.window (recordOf w [] k)
 unfolding sound recordWith
 sound-handles w h k =
     let c = getD w 0 0 in
@@ -76,6 +76,15 @@ did-nothing says =
         lost = says .lost;
       };
       became = refl;
+    }
+
+-- The same outcome, told in another way.
+pub did-as : {o o′ : Outcome ℕ} {before after : Parts} {had has : Buffers} {a : Answer} → o ≡ o′ → Did o′ before after had has a
+    → Did o before after had has a
+did-as {o} {o′} {before} {after} {had} {has} {a} e d =
+    record {
+      answered = subst⁻¹ (λ (x : Outcome ℕ). Answered x had has a) e (d .answered);
+      became = subst⁻¹ (λ (x : Outcome ℕ). Became (x .change) before after) e (d .became);
     }
 
 -- A buffer that a function was not lent stays as it is.
@@ -136,11 +145,7 @@ module _ (p : Parts) (b : Buffers) (s time : ℕ) (act : Act ℕ) (number : numb
 
   called : {o : Outcome ℕ} {after : Parts} {has : Buffers} {a : Answer} → ruleAt p b time act ≡ o → Did o p after b has a
       → Called act time p after b has a
-  called {o} {after} {has} {a} e d =
-      record {
-        answered = subst⁻¹ (λ (x : Outcome ℕ). Answered x b has a) e (d .answered);
-        became = subst⁻¹ (λ (x : Outcome ℕ). Became (x .change) p after) e (d .became);
-      }
+  called e d = let x = did-as e d in record { answered = x .answered; became = x .became }
 
   -- a refusal changes nothing
   pub called-refused : {n : ℕ} {a : Answer} → RefusedBy (testsAt p b s time) n → Says n 0 0 0 0 a → Called act time p p b b a

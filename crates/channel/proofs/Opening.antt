@@ -67,6 +67,9 @@ module _ (p : Parts) (b : Buffers) (s time : ℕ) {r : Record} (opened : OpenAt 
   in-shape : (inRing W ≡ true) × (inShape (getD W 0 0) (getD W 1 0) W K ≡ true)
   in-shape = let e = sym (sound-is W K) ∙ passes .2 in (and-left (inRing W) _ e, and-right (inRing W) _ e)
 
+  held : recordIn r W (p .handles) K ≡ recordOf W (p .handles) K
+  held = rw (opened .current, opened .oldest, opened .latest)
+
   pub ready : Ready r W (p .handles) K
   ready =
       let ring = ring-of W K (in-shape .0) in
@@ -77,6 +80,7 @@ module _ (p : Parts) (b : Buffers) (s time : ℕ) {r : Record} (opened : OpenAt 
       let rest = and-right (leb (length cells) 32) _ (in-shape .1) in
       record {
         sized = record { words = enough .words-sized; handles = enough .handles-sized; marks = enough .marks-sized };
+        held = held;
         current = rw (opened .current) (ring .0);
         oldest = rw (opened .oldest) (ring .1);
         narrow = omega (arith, span, length-window (cellAt W [] K) (getD W 1 0) n);
@@ -84,9 +88,6 @@ module _ (p : Parts) (b : Buffers) (s time : ℕ) {r : Record} (opened : OpenAt 
             ap (λ x. getD K (x % 32) 0) (opened .oldest)
             ∙ head-of W K (getD W 1 0) n (and-left (headMissing cells) _ rest) (rw span at q);
       }
-
-  pub record-open : recordIn r W (p .handles) K ≡ recordOf W (p .handles) K
-  record-open = rw (opened .current, opened .oldest, opened .latest)
 
 -- s lies ahead: of so many numbers the last comes with a frame, or is missing with the others
 module _ (c s d : ℕ) (is : seen (reach channel.window) c s ≡ Ahead d) where

@@ -9,7 +9,7 @@ use Rattle.larq.specs.Channel.{Cell, waits, Channel}
 use Rattle.larq.specs.Settling.{Walked, walk}
 use Rattle.larq.specs.Channel as channel
 use Rattle.larq.specs.Answer.{Outcome}
-use Rattle.larq.specs.Events.{moved, filling, filled}
+use Rattle.larq.specs.Events.{moved, filling, filled, data-on, sideOf}
 use Rattle.channel.specs.Place.{window, cellAt, spanOf, recordWith, recordOf}
 use Rattle.channel.specs.Slots.{earlier, stamped, Laid}
 use Rattle.channel.specs.Call.{Parts}
@@ -34,9 +34,10 @@ recordIn r words handles marks = recordWith (r .current .0) (r .oldest .0) (r .l
 abbrev pub spanIn : Record → ℕ
 spanIn r = spanOf (r .current .0) (r .oldest .0)
 
--- what an event that is not refused finds: a sound record, of which the times of missing numbers need not be told here
+-- what an event that is not refused finds: the record that the place holds, not broken. The times of missing numbers need not be told here
 pub record Ready (r : Record) (w h k : List ℕ) : Type 0 where
   pub sized : Sized w h k
+  pub held : recordIn r w h k ≡ recordOf w h k
   pub current : r .current .0 < 4096
   pub oldest : r .oldest .0 < 4096
   pub narrow : spanIn r ≤ 32
@@ -106,3 +107,7 @@ pub record Entered (first count time s : ℕ) (last : Last) (before : Parts) (na
 -- s lies behind, as the rules have it
 abbrev pub filledAt : Channel ℕ → ℕ → ℕ → ℕ → Outcome ℕ
 filledAt c t s h = filled channel.window c t h (filling (c .cells) (steps (c .oldest) s) h)
+
+-- a frame at a record that is not broken
+abbrev pub dataAt : Channel ℕ → ℕ → ℕ → ℕ → Outcome ℕ
+dataAt c t s h = data-on channel.window c t s h (sideOf channel.window c s)

@@ -1,6 +1,9 @@
 // One place of the table: the four events on one open channel, in place.
+ghost use Prim.Native.Nat.{_≤_, _<_};
+ghost use lib.ListN.{length};
 ghost use Rattle.larq.specs.Events.{frame};
-ghost use Rattle.channel.specs.Call.{Says, Called, parts, buffers};
+ghost use Rattle.channel.specs.Call.{Says, Did, Called, parts, buffers};
+ghost use Rattle.channel.specs.Steps.{Ready, recordIn, dataAt};
 
 mod act;
 mod judge;
@@ -15,6 +18,7 @@ use crate::act::sent_back;
 use crate::judge::Judged;
 use crate::judge::Spot;
 use crate::judge::judge;
+use crate::record::Record;
 use ring::Seq;
 
 // What a call answers: the number, how many entries of each buffer it wrote, and how many numbers it gave up.
@@ -65,25 +69,53 @@ pub fn data(
         time,
     ) {
         Judged::Refused(n) => refused(n),
-        Judged::Open(r) => {
-            let s = Seq(number);
-            match r.spot(marks, s) {
-                Spot::Ahead(d) => ahead(
-                    r,
-                    words,
-                    handles,
-                    marks,
-                    up,
-                    nack,
-                    s,
-                    d - 1,
-                    Last::Waits(handle),
-                    time,
-                ),
-                Spot::Missing => filled(r, words, handles, marks, up, s, handle, time),
-                Spot::Known => sent_back(words, returned, handle, time),
-                Spot::Far => restarted(r, words, handles, marks, up, returned, s, handle, time),
-            }
-        }
+        Judged::Open(r) => arrive(
+            r,
+            words,
+            handles,
+            marks,
+            up,
+            returned,
+            nack,
+            Seq(number),
+            handle,
+            time,
+        ),
+    }
+}
+
+// A frame comes to a record that no number refuses it.
+fn arrive(
+    r: Record,
+    words: &mut [u64],
+    handles: &mut [u32],
+    marks: &mut [u8],
+    up: &mut [u32],
+    returned: &mut [u32],
+    nack: &mut [u16],
+    s: Seq,
+    handle: u32,
+    time: u64,
+) -> Answer
+    requires { ⌜ Ready r (now words) (now handles) (now marks) × (s .0 < 4096) ⌝ }
+    requires { ⌜ (32 ≤ length (now up)) × (32 ≤ length (now returned)) × (32 ≤ length (now nack)) ⌝ }
+    ensures { λ a. ⌜ Did (dataAt (recordIn r (now (words .entry)) (now (handles .entry)) (now (marks .entry))) time (s .0) handle) (parts (now (words .entry)) (now (handles .entry)) (now (marks .entry))) (parts (now (words .exit)) (now (handles .exit)) (now (marks .exit))) (buffers (now (up .entry)) (now (returned .entry)) (now (nack .entry))) (buffers (now (up .exit)) (now (returned .exit)) (now (nack .exit))) a ⌝ }
+{
+    match r.spot(marks, s) {
+        Spot::Ahead(d) => ahead(
+            r,
+            words,
+            handles,
+            marks,
+            up,
+            nack,
+            s,
+            d - 1,
+            Last::Waits(handle),
+            time,
+        ),
+        Spot::Missing => filled(r, words, handles, marks, up, s, handle, time),
+        Spot::Known => sent_back(words, returned, handle, time),
+        Spot::Far => restarted(r, words, handles, marks, up, returned, s, handle, time),
     }
 }
