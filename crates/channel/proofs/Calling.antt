@@ -18,12 +18,12 @@ use Rattle.larq.specs.Events.{Act, act-on, sideOf}
 use Rattle.larq.specs.Table.{one, lentEnough, numberInRing, notBefore, reminderNear}
 use Rattle.channel.specs.Place.{window, cellAt, spanOf, recordWith, recordOf}
 use Rattle.channel.specs.Call.{Wrote, Buffers, Parts, parts, buffers, Answered, Became, Says, Did, Called, ruleAt}
-use Rattle.channel.specs.Judge.{lentAt, testsAt, RefusedBy, OpenAt}
+use Rattle.channel.specs.Judge.{lentAt}
 use Rattle.channel.specs.declared.Answer.{Answer}
 use Rattle.channel.specs.declared.record.Record.{Record}
 use Rattle.channel.proofs.Windows.{length-window}
 use Rattle.channel.proofs.Laying.{wrote-idle}
-use Rattle.channel.proofs.Opening.{passes}
+use Rattle.channel.proofs.Opening.{Stopped, Opened, passes}
 
 -- The handles have no part in whether a record is broken.
 times-window : (w h k : List ℕ) (m n : ℕ) → times (window (cellAt w h k) m n) ≡ times (window (cellAt w [] k) m n)
@@ -64,19 +64,21 @@ by-tests refuse good true true false d n e p = ap refuse e
 by-tests refuse good true true true false n e p = ap refuse e
 by-tests refuse good true true true true n e p = absurd (let z : ⊥ = omega arith in z)
 
--- A refusal: all counts 0, and nothing is touched.
-pub did-nothing : {n : ℕ} {p : Parts} {b : Buffers} {a : Answer} → Says n 0 0 0 0 a → Did (refused n) p p b b a
-did-nothing says =
+-- All counts are 0, and no buffer is touched.
+pub answered-none : {n : ℕ} {change : Change ℕ} {b : Buffers} {a : Answer} → Says n 0 0 0 0 a
+    → Answered (record { answer = record { number = n; up = []; returned = []; nack = []; lost = 0 }; change = change }) b b a
+answered-none says =
     record {
-      answered = record {
-        number = says .number;
-        up = record { count = says .up; buffer = refl };
-        returned = record { count = says .returned; buffer = refl };
-        nack = record { count = says .nack; buffer = refl };
-        lost = says .lost;
-      };
-      became = refl;
+      number = says .number;
+      up = record { count = says .up; buffer = refl };
+      returned = record { count = says .returned; buffer = refl };
+      nack = record { count = says .nack; buffer = refl };
+      lost = says .lost;
     }
+
+-- A refusal touches nothing.
+pub did-nothing : {n : ℕ} {p : Parts} {b : Buffers} {a : Answer} → Says n 0 0 0 0 a → Did (refused n) p p b b a
+did-nothing says = record { answered = answered-none says; became = refl }
 
 -- The same outcome, told in another way.
 pub did-as : {o o′ : Outcome ℕ} {before after : Parts} {had has : Buffers} {a : Answer} → o ≡ o′ → Did o′ before after had has a
@@ -120,6 +122,7 @@ module _ (p : Parts) (b : Buffers) (s time : ℕ) (act : Act ℕ) (number : numb
   abbrev c : Channel ℕ
   c = recordOf (p .words) (p .handles) (p .marks)
 
+  -- what the event does, or number 8
   abbrev done : Outcome ℕ
   done = cond (reminderNear channel.window act c) (act-on channel.window c time act) (refused 8)
 
@@ -137,20 +140,21 @@ module _ (p : Parts) (b : Buffers) (s time : ℕ) (act : Act ℕ) (number : numb
   unfolding one recordWith
   rule-is = rw (number, sound-handles (p .words) (p .handles) (p .marks))
 
-  pub rule-refused : {n : ℕ} → RefusedBy (testsAt p b s time) n → ruleAt p b time act ≡ refused n
-  rule-refused {n} by = rule-is ∙ by-tests refused done lent (leb s 4095) whole late n (by .is) (by .some)
+  rule-stopped : {n : ℕ} → Stopped p b s time n → ruleAt p b time act ≡ refused n
+  rule-stopped {n} stopped = rule-is ∙ by-tests refused done lent (leb s 4095) whole late n (stopped .by .is) (stopped .by .some)
 
-  pub rule-open : {r : Record} → OpenAt (testsAt p b s time) (p .words) r → ruleAt p b time act ≡ done
-  rule-open at = let e = passes p b s time at in rule-is ∙ rw (e .0, e .1, e .2, e .3)
+  rule-opened : {r : Record} → Opened p b s time r → ruleAt p b time act ≡ done
+  rule-opened opened = let e = passes opened in rule-is ∙ rw (e .0, e .1, e .2, e .3)
 
-  called : {o : Outcome ℕ} {after : Parts} {has : Buffers} {a : Answer} → ruleAt p b time act ≡ o → Did o p after b has a
-      → Called act time p after b has a
-  called e d = let x = did-as e d in record { answered = x .answered; became = x .became }
+called : {p after : Parts} {b has : Buffers} {time : ℕ} {act : Act ℕ} {o : Outcome ℕ} {a : Answer} → ruleAt p b time act ≡ o → Did o p after b has a
+    → Called act time p after b has a
+called e d = let x = did-as e d in record { answered = x .answered; became = x .became }
 
+module _ {p : Parts} {b : Buffers} {s time : ℕ} (act : Act ℕ) (number : numberInRing act ≡ leb s 4095) where
   -- a refusal changes nothing
-  pub called-refused : {n : ℕ} {a : Answer} → RefusedBy (testsAt p b s time) n → Says n 0 0 0 0 a → Called act time p p b b a
-  called-refused by says = called (rule-refused by) (did-nothing says)
+  pub called-stopped : {n : ℕ} {a : Answer} → Stopped p b s time n → Says n 0 0 0 0 a → Called act time p p b b a
+  called-stopped stopped says = called (rule-stopped p b s time act number stopped) (did-nothing says)
 
-  pub called-did : {r : Record} {o : Outcome ℕ} {after : Parts} {has : Buffers} {a : Answer} → OpenAt (testsAt p b s time) (p .words) r → done ≡ o
-      → Did o p after b has a → Called act time p after b has a
-  called-did at e d = called (rule-open at ∙ e) d
+  pub called-opened : {r : Record} {o : Outcome ℕ} {after : Parts} {has : Buffers} {a : Answer} → Opened p b s time r
+      → done p b s time act number ≡ o → Did o p after b has a → Called act time p after b has a
+  called-opened opened e d = called (rule-opened p b s time act number opened ∙ e) d

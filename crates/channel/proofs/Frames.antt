@@ -14,15 +14,16 @@ use Rattle.larq.specs.Events.{frame, act-on, data-on, ahead, restarted, sideOf,
 use Rattle.channel.specs.Place.{recordWith, recordOf}
 use Rattle.channel.specs.Call.{Parts, Buffers, parts, buffers, Says, Did, Called}
 use Rattle.channel.specs.Steps.{Ready, recordIn, filledAt, dataAt}
-use Rattle.channel.specs.Judge.{testsAt, OpenAt, MissingAt, KnownAt}
+use Rattle.channel.specs.Judge.{MissingAt, KnownAt}
 use Rattle.channel.specs.declared.Answer.{Answer}
 use Rattle.channel.specs.declared.record.Record.{Record}
 use Rattle.channel.proofs.Laying.{wrote-none, wrote-one}
 use Rattle.channel.proofs.Places.{record-taken}
+use Rattle.channel.proofs.Opening.{Opened, ready}
 use Rattle.channel.proofs.StepBehind.{rule-known}
-use Rattle.channel.proofs.Calling.{did-as, did-returned, did-nack, called-did}
+use Rattle.channel.proofs.Calling.{did-as, did-returned, did-nack, called-opened}
 
-module _ {r : Record} {W H K : List ℕ} (s x t : ℕ) (ready : Ready r W H K) where
+module _ {r : Record} {W H K : List ℕ} (s x t : ℕ) (is-ready : Ready r W H K) where
   abbrev c : Channel ℕ
   c = recordIn r W H K
 
@@ -50,7 +51,7 @@ module _ {r : Record} {W H K : List ℕ} (s x t : ℕ) (ready : Ready r W H K) w
       → Says 0 0 1 0 0 a → Did (dataAt c t s x) (parts W H K) (parts w H K) (buffers U B N) (buffers U b N) a
   frame-known U B N at room ew eb says =
       did-as
-      (rule-by (at .behind .is) ∙ rule-known ready s x t at ∙ ap (λ y. accepted [] (x ∷ []) [] 0 (holds (taken y t))) (ready .held))
+      (rule-by (at .behind .is) ∙ rule-known is-ready s x t at ∙ ap (λ y. accepted [] (x ∷ []) [] 0 (holds (taken y t))) (is-ready .held))
       (record {
         answered = record {
           number = says .number;
@@ -59,13 +60,12 @@ module _ {r : Record} {W H K : List ℕ} (s x t : ℕ) (ready : Ready r W H K) w
           nack = rw (says .nack) (wrote-none N);
           lost = says .lost;
         };
-        became = rw ew (record-taken W H K t (omega (arith, ready .sized .words)));
+        became = rw ew (record-taken W H K t (omega (arith, is-ready .sized .words)));
       })
 
 -- a frame that no number refuses
-pub called-frame : (p : Parts) (b : Buffers) (s x time : ℕ) {r : Record} {after : Parts} {has : Buffers} {a : Answer}
-    → OpenAt (testsAt p b s time) (p .words) r → Ready r (p .words) (p .handles) (p .marks)
+pub called-frame : {p after : Parts} {b has : Buffers} {s time : ℕ} {r : Record} {a : Answer} (x : ℕ) → Opened p b s time r
     → Did (dataAt (recordIn r (p .words) (p .handles) (p .marks)) time s x) p after b has a → Called (frame s x) time p after b has a
 unfolding act-on
-called-frame p b s x time opened ready did =
-    called-did p b s time (frame s x) refl opened (ap (λ y. dataAt y time s x) (sym (ready .held))) did
+called-frame {s = s} {time = time} x opened did =
+    called-opened (frame s x) refl opened (ap (λ y. dataAt y time s x) (sym (ready opened .held))) did

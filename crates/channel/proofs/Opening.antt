@@ -18,8 +18,10 @@ use Rattle.larq.specs.Table.{lentEnough, notBefore}
 use Rattle.channel.specs.Place.{window, cellAt, spanOf, recordWith, recordOf}
 use Rattle.channel.specs.Call.{Parts, Buffers}
 use Rattle.channel.specs.Steps.{Sized, Ready, recordIn, spanIn, IsAhead, cellsOf}
-use Rattle.channel.specs.Judge.{lentAt, testsAt, OpenAt, inRing, inShape, shapely}
+use Rattle.channel.specs.Judge.{lentAt, testsAt, Judges, RefusedBy, OpenAt, inRing, inShape, shapely}
 use Rattle.channel.specs.declared.record.Record.{Record}
+use Rattle.channel.specs.declared.judge.Judged.{Judged}
+use Rattle.channel.specs.declared.judge.Judged.the-variants.{Refused, Open}
 use Rattle.channel.specs.declared.act.Last.{Last}
 use Rattle.channel.specs.declared.act.Last.the-variants.{Waits, Missing}
 use Rattle.channel.proofs.Windows.{length-window, window-suc, cell-waits}
@@ -46,8 +48,21 @@ head-of w k m n e p = by-mark (eqb (getD k (m % 32) 0) 0) refl
         window-suc (cellAt w [] k) m n p ∙ rw (cell-waits w [] k (m % 32) (eqb-false (getD k (m % 32) 0) 0 f)) in
         absurd (false≢true (sym (ap headMissing first) ∙ e))
 
--- The call's parts and buffers, its number and time.
-module _ (p : Parts) (b : Buffers) (s time : ℕ) {r : Record} (opened : OpenAt (testsAt p b s time) (p .words) r) where
+-- What was decided of a call with these parts and buffers, this number and this time.
+pub record Stopped (p : Parts) (b : Buffers) (s time number : ℕ) : Type 0 where
+  pub by : RefusedBy (testsAt p b s time) number
+
+pub record Opened (p : Parts) (b : Buffers) (s time : ℕ) (r : Record) : Type 0 where
+  pub at : OpenAt (testsAt p b s time) (p .words) r
+
+module _ (p : Parts) (b : Buffers) (s time : ℕ) {j : Judged} (judges : Judges (lentAt p b) (p .words) (p .marks) s time j) where
+  pub stopped-by : {number : ℕ} → j ≡ Refused number → Stopped p b s time number
+  stopped-by e = record { by = subst (Judges (lentAt p b) (p .words) (p .marks) s time) e judges }
+
+  pub opened-by : {r : Record} → j ≡ Open r → Opened p b s time r
+  opened-by e = record { at = subst (Judges (lentAt p b) (p .words) (p .marks) s time) e judges }
+
+module _ {p : Parts} {b : Buffers} {s time : ℕ} {r : Record} (opened : Opened p b s time r) where
   abbrev W : List ℕ
   W = p .words
 
@@ -56,7 +71,7 @@ module _ (p : Parts) (b : Buffers) (s time : ℕ) {r : Record} (opened : OpenAt 
 
   pub passes : (lentEnough channel.window (lentAt p b) ≡ true) × (leb s 4095 ≡ true) × (sound channel.window (recordOf W [] K) ≡ true)
       × (notBefore time (recordOf W [] K) ≡ true)
-  passes = all-pass _ _ _ _ (opened .none)
+  passes = all-pass _ _ _ _ (opened .at .none)
 
   pub enough : Enough (length W) (length (p .handles)) (length K) (length (b .up)) (length (b .returned)) (length (b .nack))
   enough = enough-of (length W) (length (p .handles)) (length K) (length (b .up)) (length (b .returned)) (length (b .nack)) (passes .0)
@@ -68,24 +83,24 @@ module _ (p : Parts) (b : Buffers) (s time : ℕ) {r : Record} (opened : OpenAt 
   in-shape = let e = sym (sound-is W K) ∙ passes .2 in (and-left (inRing W) _ e, and-right (inRing W) _ e)
 
   held : recordIn r W (p .handles) K ≡ recordOf W (p .handles) K
-  held = rw (opened .current, opened .oldest, opened .latest)
+  held = rw (opened .at .current, opened .at .oldest, opened .at .latest)
 
   pub ready : Ready r W (p .handles) K
   ready =
       let ring = ring-of W K (in-shape .0) in
       let n = spanOf (getD W 0 0) (getD W 1 0) in
-      let span : spanIn r ≡ n = ap₂ spanOf (opened .current) (opened .oldest) in
+      let span : spanIn r ≡ n = ap₂ spanOf (opened .at .current) (opened .at .oldest) in
       let cells = window (cellAt W [] K) (getD W 1 0) n in
       let fits : length cells ≤ 32 = leb-true (length cells) 32 (and-left (leb (length cells) 32) _ (in-shape .1)) in
       let rest = and-right (leb (length cells) 32) _ (in-shape .1) in
       record {
         sized = record { words = enough .words-sized; handles = enough .handles-sized; marks = enough .marks-sized };
         held = held;
-        current = rw (opened .current) (ring .0);
-        oldest = rw (opened .oldest) (ring .1);
+        current = rw (opened .at .current) (ring .0);
+        oldest = rw (opened .at .oldest) (ring .1);
         narrow = omega (arith, span, length-window (cellAt W [] K) (getD W 1 0) n);
         head = λ q.
-            ap (λ x. getD K (x % 32) 0) (opened .oldest)
+            ap (λ x. getD K (x % 32) 0) (opened .at .oldest)
             ∙ head-of W K (getD W 1 0) n (and-left (headMissing cells) _ rest) (rw span at q);
       }
 

@@ -1,6 +1,7 @@
 -- What the functions inside the crate ask for and promise.
 use Prim.Native.Nat.{ℕ, _+_, _-_, _≤_, _<_, _%_}
 use mathlib.Core.Path.{_≡_}
+use mathlib.Core.Bool.{cond}
 use mathlib.Core.List.{List, [], _∷_}
 use lib.ListN.{length, getD, set}
 use lib.Seq.{sets}
@@ -8,8 +9,9 @@ use Rattle.ring.specs.Ring.{forward, steps, rising}
 use Rattle.larq.specs.Channel.{Cell, waits, Channel}
 use Rattle.larq.specs.Settling.{Walked, walk}
 use Rattle.larq.specs.Channel as channel
-use Rattle.larq.specs.Answer.{Outcome}
-use Rattle.larq.specs.Events.{moved, filling, filled, data-on, sideOf}
+use Rattle.larq.specs.Answer.{Outcome, refused}
+use Rattle.larq.specs.Events.{moved, filling, filled, data-on, reminder-on, sideOf}
+use Rattle.larq.specs.Table.{notFar}
 use Rattle.channel.specs.Place.{window, cellAt, spanOf, recordWith, recordOf}
 use Rattle.channel.specs.Slots.{earlier, stamped, Laid}
 use Rattle.channel.specs.Call.{Parts}
@@ -111,3 +113,8 @@ filledAt c t s h = filled channel.window c t h (filling (c .cells) (steps (c .ol
 -- a frame at a record that is not broken
 abbrev pub dataAt : Channel ℕ → ℕ → ℕ → ℕ → Outcome ℕ
 dataAt c t s h = data-on channel.window c t s h (sideOf channel.window c s)
+
+-- a reminder at a record that is not broken: number 8 refuses it from far
+abbrev pub reminderAt : Channel ℕ → ℕ → ℕ → Outcome ℕ
+reminderAt c t s =
+    cond (notFar (sideOf channel.window c s)) (reminder-on channel.window c t s (sideOf channel.window c s)) (refused 8)

@@ -5,7 +5,8 @@ ghost use Prim.Native.Nat.{_+_, _-_, _≤_, _<_};
 ghost use lib.ListN.{length, set};
 ghost use Rattle.ring.specs.Ring.{steps};
 ghost use Rattle.larq.specs.Channel.{window};
-ghost use Rattle.larq.specs.Events.{ahead, restarted};
+ghost use Rattle.larq.specs.Events.{ahead, restarted, tick-on, close-on};
+ghost use Rattle.larq.specs.Settling.{hold};
 ghost use Rattle.channel.specs.Place.{spanOf};
 ghost use Rattle.channel.specs.Call.{Did, Says, parts, buffers};
 ghost use Rattle.channel.specs.Steps.{Sized, Ready, recordIn, walkOf, Finished, cellsOf, handlesWith, marksWith, Entered, IsAhead, filledAt};
@@ -15,6 +16,10 @@ use crate::record::Record;
 use crate::window::hand;
 use crate::window::miss;
 use crate::window::slot;
+use crate::zero::zero_handles;
+use crate::zero::zero_marks;
+use crate::zero::zero_words;
+use larq::HOLD;
 use ring::Seq;
 
 // How the last number of a step ahead comes: a frame brings it, and it waits with its handle; or it is only told of, and is missing too.
@@ -177,6 +182,78 @@ pub(crate) fn restarted(
     Answer {
         number: 0,
         up: 1,
+        returned: count,
+        nack: 0,
+        lost: 0,
+    }
+}
+
+// Nothing but the latest time changes.
+pub(crate) fn noted(words: &mut [u64], time: u64) -> Answer
+    requires { ⌜ 2 < length (now words) ⌝ }
+    ensures { λ a. ⌜ (now (words .exit) ≡ set (now (words .entry)) 2 time) × Says 0 0 0 0 0 a ⌝ }
+{
+    words[2] = time;
+    Answer {
+        number: 0,
+        up: 0,
+        returned: 0,
+        nack: 0,
+        lost: 0,
+    }
+}
+
+// A tick gives up at `time` what is missing since before this: 150 or more ticks ago.
+fn given_up_before(time: u64) -> u64
+    ensures { λ r. ⌜ r ≡ time + 1 - hold ⌝ }
+{
+    if HOLD <= time { time - HOLD + 1 } else { 0 }
+}
+
+// A tick: M moves on over what is missing for too long, and over what waits.
+pub(crate) fn ticked(
+    r: Record,
+    words: &mut [u64],
+    handles: &[u32],
+    marks: &[u8],
+    up: &mut [u32],
+    time: u64,
+) -> Answer
+    requires { ⌜ Ready r (now words) (now handles) (now marks) × (32 ≤ length (now up)) ⌝ }
+    ensures { λ a. ⌜ Did (tick-on (recordIn r (now (words .entry)) (now (handles .entry)) (now (marks .entry))) time) (parts (now (words .entry)) (now (handles .entry)) (now (marks .entry))) (parts (now (words .exit)) (now (handles .entry)) (now (marks .entry))) (buffers (now (up .entry)) [] []) (buffers (now (up .exit)) [] []) a ⌝ }
+{
+    let kept = r.arrived(r.current, time);
+    settle(
+        kept,
+        words,
+        handles,
+        marks,
+        up,
+        0,
+        0,
+        0,
+        given_up_before(time),
+    )
+}
+
+// A close: every waiting handle comes back, and the place is zeros.
+pub(crate) fn closed(
+    r: Record,
+    words: &mut [u64],
+    handles: &mut [u32],
+    marks: &mut [u8],
+    returned: &mut [u32],
+) -> Answer
+    requires { ⌜ Ready r (now words) (now handles) (now marks) × (32 ≤ length (now returned)) ⌝ }
+    ensures { λ a. ⌜ Did (close-on (recordIn r (now (words .entry)) (now (handles .entry)) (now (marks .entry)))) (parts (now (words .entry)) (now (handles .entry)) (now (marks .entry))) (parts (now (words .exit)) (now (handles .exit)) (now (marks .exit))) (buffers [] (now (returned .entry)) []) (buffers [] (now (returned .exit)) []) a ⌝ }
+{
+    let count = hand(handles, marks, r.oldest, r.span(), returned, 0);
+    zero_words(words);
+    zero_handles(handles);
+    zero_marks(marks);
+    Answer {
+        number: 0,
+        up: 0,
         returned: count,
         nack: 0,
         lost: 0,

@@ -1,12 +1,9 @@
 -- `data` meets its contract: a number that was decided refuses it (Calling), or it comes to an open record (Frames).
-use mathlib.Core.Path.{_≡_, refl, subst}
+use mathlib.Core.Path.{refl}
 use Rattle.larq.specs.Events.{frame}
 use Rattle.channel.specs.Call.{Parts, Buffers, parts, buffers}
-use Rattle.channel.specs.Judge.{lentAt, Judges}
-use Rattle.channel.specs.declared.judge.Judged.{Judged}
-use Rattle.channel.specs.declared.judge.Judged.the-variants.{Refused, Open}
-use Rattle.channel.proofs.Opening.{enough, in-ring, ready}
-use Rattle.channel.proofs.Calling.{called-refused}
+use Rattle.channel.proofs.Opening.{stopped-by, opened-by, enough, in-ring, ready}
+use Rattle.channel.proofs.Calling.{called-stopped}
 use Rattle.channel.proofs.Frames.{called-frame}
 use borrow.Author.Needs.{needs}
 use Rattle.channel.proofs.data.Statement.{statement}
@@ -17,20 +14,12 @@ use Rattle.channel.proofs.arrive.Reads as arrive-reads
 use Rattle.channel.proofs.judge.judge.Reads as judge-reads
 use Rattle.channel.proofs.refused.Reads as refused-reads
 
--- The way back to the entry, what the call was lent, and what was decided of it.
-abbrev at-entry : tie.After-judge → tie.Start
-at-entry c = c .before .before .before .before .before .before .before .before .before
+-- what the call was lent
+abbrev lent : tie.Start → Parts
+lent c = parts (c .args .words .now) (c .args .handles .now) (c .args .marks .now)
 
-abbrev lent : tie.After-judge → Parts
-lent c = let a = at-entry c .args in parts (a .words .now) (a .handles .now) (a .marks .now)
-
-abbrev lends : tie.After-judge → Buffers
-lends c = let a = at-entry c .args in buffers (a .up .now) (a .returned .now) (a .nack .now)
-
-judged : (c : tie.After-judge) (j : Judged) → c .judge .result ≡ j
-    → Judges (lentAt (lent c) (lends c)) (lent c .words) (lent c .marks) (at-entry c .args .number) (at-entry c .args .time) j
-judged c j e =
-    subst (Judges (lentAt (lent c) (lends c)) (lent c .words) (lent c .marks) (at-entry c .args .number) (at-entry c .args .time)) e (c .judge .ensures)
+abbrev lends : tie.Start → Buffers
+lends c = buffers (c .args .up .now) (c .args .returned .now) (c .args .nack .now)
 
 judge-requires : tie.Need-judge-requires
 judge-requires c κs = search needs
@@ -46,13 +35,10 @@ enum-known-r c = search needs
 
 arrive-requires : tie.Need-arrive-requires
 arrive-requires c κs =
-    let j = c .before .before .before .before .before .before .before .before .before in
-    let a = at-entry j .args in
-    let opened = judged j (Open _) (c .before .before .before .before .before .before .before .r .given .1) in
-    let room = enough (lent j) (lends j) (a .number) (a .time) opened in (
-      (ready (lent j) (lends j) (a .number) (a .time) opened, in-ring (lent j) (lends j) (a .number) (a .time) opened),
-      (room .up-room, room .returned-room, room .nack-room),
-    )
+    let e = c .before .before .before .before .before .before .before .before .before .before .before .before .before .before .before .before .before .before in
+    let opened = opened-by (lent e) (lends e) (e .args .number) (e .args .time) (c .before .before .before .before .before .before .before .before .before .judge .ensures) (c .before .before .before .before .before .before .before .r .given .1) in
+    let room = enough opened in
+    ((ready opened, in-ring opened), (room .up-room, room .returned-room, room .nack-room))
 
 same-length : tie.Need-same-length
 same-length c = search needs
@@ -62,10 +48,8 @@ same-length-2 c = search needs
 
 returns : tie.Need-returns
 returns c =
-    let j = c .before .before .before .before in
-    let a = at-entry j .args in
-    called-refused (lent j) (lends j) (a .number) (a .time) (frame (a .number) (a .handle)) refl (judged j (Refused _) (c .before .before .n .given .1))
-    (c .refused .ensures)
+    let e = c .before .before .before .before .before .before .before .before .before .before .before .before .before in
+    called-stopped (frame (e .args .number) (e .args .handle)) refl (stopped-by (lent e) (lends e) (e .args .number) (e .args .time) (c .before .before .before .before .judge .ensures) (c .before .before .n .given .1)) (c .refused .ensures)
 
 same-length-3 : tie.Need-same-length-3
 same-length-3 c = search needs
@@ -87,11 +71,9 @@ same-length-8 c = search needs
 
 returns-2 : tie.Need-returns-2
 returns-2 c =
-    let j = c .before .before .before .before .before .before .before .before .before .before .before .before .before .before .before .before .before .before .before .before .before .before in
-    let a = at-entry j .args in
-    let opened = judged j (Open _) (c .before .before .before .before .before .before .before .before .before .before .before .before .before .before .before .before .before .before .before .before .r .given .1) in
-    called-frame (lent j) (lends j) (a .number) (a .handle) (a .time) opened (ready (lent j) (lends j) (a .number) (a .time) opened)
-    (c .before .before .before .before .before .before .before .before .before .before .before .before .arrive .ensures)
+    let e = c .before .before .before .before .before .before .before .before .before .before .before .before .before .before .before .before .before .before .before .before .before .before .before .before .before .before .before .before .before .before .before in
+    let opened = opened-by (lent e) (lends e) (e .args .number) (e .args .time) (c .before .before .before .before .before .before .before .before .before .before .before .before .before .before .before .before .before .before .before .before .before .before .judge .ensures) (c .before .before .before .before .before .before .before .before .before .before .before .before .before .before .before .before .before .before .before .before .r .given .1) in
+    called-frame (e .args .handle) opened (c .before .before .before .before .before .before .before .before .before .before .before .before .arrive .ensures)
 
 pub data-spec : {M : Type 1} → statement M
 data-spec =
