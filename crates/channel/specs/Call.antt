@@ -33,6 +33,14 @@ pub record Answered (rule : Outcome ℕ) (before after : Buffers) (given : Answe
   pub nack : Wrote (rule .answer .nack) (before .nack) (after .nack) (given .nack)
   pub lost : given .lost ≡ rule .answer .lost
 
+-- an answer, count by count
+pub record Says (n u r q l : ℕ) (given : Answer) : Type 0 where
+  pub number : given .number ≡ n
+  pub up : given .up ≡ u
+  pub returned : given .returned ≡ r
+  pub nack : given .nack ≡ q
+  pub lost : given .lost ≡ l
+
 -- the parts of one place
 pub record Parts : Type 0 where
   pub words : List ℕ
@@ -66,6 +74,11 @@ eventAt p b time act =
 -- the rule for that event: the numbers 1, 2, 6, 7, 8 in their order, then what the event does
 abbrev pub ruleAt : Parts → Buffers → ℕ → Act ℕ → Outcome ℕ
 ruleAt p b time act = one window true (recordOf (p .words) (p .handles) (p .marks) ∷ []) (eventAt p b time act)
+
+-- a call does what an outcome says: the answer, the buffers and the place
+pub record Did (rule : Outcome ℕ) (before after : Parts) (had has : Buffers) (given : Answer) : Type 0 where
+  pub answered : Answered rule had has given
+  pub became : Became (rule .change) before after
 
 -- a call on an open place
 pub record Called (act : Act ℕ) (time : ℕ) (before after : Parts) (had has : Buffers) (given : Answer) : Type 0 where

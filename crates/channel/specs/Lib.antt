@@ -1,2 +1,5 @@
 pub mod Place
 pub mod Call
+pub mod Slots
+pub mod Steps
+pub mod Judge

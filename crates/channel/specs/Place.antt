@@ -7,7 +7,7 @@ use mathlib.Core.List.{List, [], _∷_}
 use lib.ListN.{length, getD}
 use lib.Dec.{eqb}
 use Rattle.ring.specs.Ring.{next, steps}
-use Rattle.larq.specs.Channel.{Cell, waits, missing, Channel}
+use Rattle.larq.specs.Channel.{Cell, waits, missing, Channel, sound}
 
 -- a slot: mark 0 is missing, any other waits
 abbrev pub cellAt : List ℕ → List ℕ → List ℕ → ℕ → Cell ℕ
@@ -33,3 +33,7 @@ recordOf words handles marks = recordWith (getD words 0 0) (getD words 1 0) (get
 -- the parts of a place are as long as they should be
 abbrev pub placeSized : ℕ → ℕ → ℕ → Bool
 placeSized words handles marks = eqb words 35 && (eqb handles 32 && eqb marks 32)
+
+-- a place's record is not broken; the handles have no part in it
+abbrev pub soundAt : List ℕ → List ℕ → Bool
+soundAt words marks = (eqb (length words) 35 && eqb (length marks) 32) && sound 32 (recordOf words [] marks)

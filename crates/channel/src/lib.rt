@@ -1,4 +1,31 @@
 // One place of the table: the four events on one open channel, in place.
+ghost use Prim.Native.Nat.{_≤_, _<_};
+ghost use mathlib.Core.List.{[]};
+ghost use lib.ListN.{length};
+ghost use Rattle.larq.specs.Events.{frame, reminder, tick, close};
+ghost use Rattle.channel.specs.Call.{Says, Did, Called, parts, buffers};
+ghost use Rattle.channel.specs.Steps.{Ready, recordIn, dataAt, reminderAt};
+
+mod act;
+mod judge;
+mod record;
+mod window;
+mod zero;
+
+use crate::act::Last;
+use crate::act::ahead;
+use crate::act::closed;
+use crate::act::filled;
+use crate::act::noted;
+use crate::act::restarted;
+use crate::act::sent_back;
+use crate::act::ticked;
+use crate::judge::Judged;
+use crate::judge::Spot;
+use crate::judge::judge;
+use crate::record::Record;
+use ring::Seq;
+use ring::Side;
 
 // What a call answers: the number, how many entries of each buffer it wrote, and how many numbers it gave up.
 #[repr(C)]
@@ -8,4 +35,209 @@ pub struct Answer {
     pub returned: usize,
     pub nack: usize,
     pub lost: usize,
+}
+
+// A refusal: its number, and all counts 0.
+pub fn refused(number: u8) -> Answer
+    ensures { λ r. ⌜ Says number 0 0 0 0 r ⌝ }
+{
+    Answer {
+        number: number,
+        up: 0,
+        returned: 0,
+        nack: 0,
+        lost: 0,
+    }
+}
+
+// A data frame comes to the open place: it waits, goes up, comes back or restarts the channel.
+pub fn data(
+    words: &mut [u64],
+    handles: &mut [u32],
+    marks: &mut [u8],
+    up: &mut [u32],
+    returned: &mut [u32],
+    nack: &mut [u16],
+    number: u16,
+    handle: u32,
+    time: u64,
+) -> Answer
+    ensures { λ r. ⌜ Called (frame number handle) time (parts (now (words .entry)) (now (handles .entry)) (now (marks .entry))) (parts (now (words .exit)) (now (handles .exit)) (now (marks .exit))) (buffers (now (up .entry)) (now (returned .entry)) (now (nack .entry))) (buffers (now (up .exit)) (now (returned .exit)) (now (nack .exit))) r ⌝ }
+{
+    match judge(
+        words,
+        marks,
+        handles.len(),
+        up.len(),
+        returned.len(),
+        nack.len(),
+        number,
+        time,
+    ) {
+        Judged::Refused(n) => refused(n),
+        Judged::Open(r) => arrive(
+            r,
+            words,
+            handles,
+            marks,
+            up,
+            returned,
+            nack,
+            Seq(number),
+            handle,
+            time,
+        ),
+    }
+}
+
+// A frame comes to a record that no number refuses it.
+fn arrive(
+    r: Record,
+    words: &mut [u64],
+    handles: &mut [u32],
+    marks: &mut [u8],
+    up: &mut [u32],
+    returned: &mut [u32],
+    nack: &mut [u16],
+    s: Seq,
+    handle: u32,
+    time: u64,
+) -> Answer
+    requires { ⌜ Ready r (now words) (now handles) (now marks) × (s .0 < 4096) ⌝ }
+    requires { ⌜ (32 ≤ length (now up)) × (32 ≤ length (now returned)) × (32 ≤ length (now nack)) ⌝ }
+    ensures { λ a. ⌜ Did (dataAt (recordIn r (now (words .entry)) (now (handles .entry)) (now (marks .entry))) time (s .0) handle) (parts (now (words .entry)) (now (handles .entry)) (now (marks .entry))) (parts (now (words .exit)) (now (handles .exit)) (now (marks .exit))) (buffers (now (up .entry)) (now (returned .entry)) (now (nack .entry))) (buffers (now (up .exit)) (now (returned .exit)) (now (nack .exit))) a ⌝ }
+{
+    match r.spot(marks, s) {
+        Spot::Ahead(d) => ahead(
+            r,
+            words,
+            handles,
+            marks,
+            up,
+            nack,
+            s,
+            d - 1,
+            Last::Waits(handle),
+            time,
+        ),
+        Spot::Missing => filled(r, words, handles, marks, up, s, handle, time),
+        Spot::Known => sent_back(words, returned, handle, time),
+        Spot::Far => restarted(r, words, handles, marks, up, returned, s, handle, time),
+    }
+}
+
+// A reminder comes to a record that no common number refuses it: it tells of numbers ahead, changes only the latest time, or is from far.
+fn remind(
+    r: Record,
+    words: &mut [u64],
+    handles: &mut [u32],
+    marks: &mut [u8],
+    up: &mut [u32],
+    nack: &mut [u16],
+    s: Seq,
+    time: u64,
+) -> Answer
+    requires { ⌜ Ready r (now words) (now handles) (now marks) × (s .0 < 4096) ⌝ }
+    requires { ⌜ (32 ≤ length (now up)) × (32 ≤ length (now nack)) ⌝ }
+    ensures { λ a. ⌜ Did (reminderAt (recordIn r (now (words .entry)) (now (handles .entry)) (now (marks .entry))) time (s .0)) (parts (now (words .entry)) (now (handles .entry)) (now (marks .entry))) (parts (now (words .exit)) (now (handles .exit)) (now (marks .exit))) (buffers (now (up .entry)) [] (now (nack .entry))) (buffers (now (up .exit)) [] (now (nack .exit))) a ⌝ }
+{
+    let c = r.current;
+    match c.seen(s) {
+        Side::Ahead(d) => ahead(
+            r,
+            words,
+            handles,
+            marks,
+            up,
+            nack,
+            s,
+            d,
+            Last::Missing,
+            time,
+        ),
+        Side::Behind(_) => noted(words, time),
+        Side::Far => refused(8),
+    }
+}
+
+// A reminder comes to the open place.
+pub fn reminder(
+    words: &mut [u64],
+    handles: &mut [u32],
+    marks: &mut [u8],
+    up: &mut [u32],
+    returned: &mut [u32],
+    nack: &mut [u16],
+    number: u16,
+    time: u64,
+) -> Answer
+    ensures { λ r. ⌜ Called (reminder number) time (parts (now (words .entry)) (now (handles .entry)) (now (marks .entry))) (parts (now (words .exit)) (now (handles .exit)) (now (marks .exit))) (buffers (now (up .entry)) (now (returned .entry)) (now (nack .entry))) (buffers (now (up .exit)) (now (returned .exit)) (now (nack .exit))) r ⌝ }
+{
+    match judge(
+        words,
+        marks,
+        handles.len(),
+        up.len(),
+        returned.len(),
+        nack.len(),
+        number,
+        time,
+    ) {
+        Judged::Refused(n) => refused(n),
+        Judged::Open(r) => remind(r, words, handles, marks, up, nack, Seq(number), time),
+    }
+}
+
+// A tick comes to the open place.
+pub fn tick(
+    words: &mut [u64],
+    handles: &mut [u32],
+    marks: &mut [u8],
+    up: &mut [u32],
+    returned: &mut [u32],
+    nack: &mut [u16],
+    time: u64,
+) -> Answer
+    ensures { λ r. ⌜ Called tick time (parts (now (words .entry)) (now (handles .entry)) (now (marks .entry))) (parts (now (words .exit)) (now (handles .exit)) (now (marks .exit))) (buffers (now (up .entry)) (now (returned .entry)) (now (nack .entry))) (buffers (now (up .exit)) (now (returned .exit)) (now (nack .exit))) r ⌝ }
+{
+    match judge(
+        words,
+        marks,
+        handles.len(),
+        up.len(),
+        returned.len(),
+        nack.len(),
+        0,
+        time,
+    ) {
+        Judged::Refused(n) => refused(n),
+        Judged::Open(r) => ticked(r, words, handles, marks, up, time),
+    }
+}
+
+// A close comes to the open place, which is then free.
+pub fn close(
+    words: &mut [u64],
+    handles: &mut [u32],
+    marks: &mut [u8],
+    up: &mut [u32],
+    returned: &mut [u32],
+    nack: &mut [u16],
+    time: u64,
+) -> Answer
+    ensures { λ r. ⌜ Called close time (parts (now (words .entry)) (now (handles .entry)) (now (marks .entry))) (parts (now (words .exit)) (now (handles .exit)) (now (marks .exit))) (buffers (now (up .entry)) (now (returned .entry)) (now (nack .entry))) (buffers (now (up .exit)) (now (returned .exit)) (now (nack .exit))) r ⌝ }
+{
+    match judge(
+        words,
+        marks,
+        handles.len(),
+        up.len(),
+        returned.len(),
+        nack.len(),
+        0,
+        time,
+    ) {
+        Judged::Refused(n) => refused(n),
+        Judged::Open(r) => closed(r, words, handles, marks, returned),
+    }
 }

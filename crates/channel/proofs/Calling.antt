@@ -1,0 +1,160 @@
+-- A call on an open place, from what was decided and what was done: the rule for the event is the refusal by the number that was decided, or
+-- what the event does. Assumes nothing.
+use Prim.Native.Nat.{ℕ, zero, suc, _+_, _-_, _%_, _≤_, _<_}
+use mathlib.Core.Path.{_≡_, refl, ap, ap₂, sym, _∙_, subst⁻¹}
+use mathlib.Core.Bool.{Bool, true, false, cond, _&&_}
+use mathlib.Core.List.{List, [], _∷_}
+use native.Mathlib.Omega.{arith}
+use lib.Dec.{eqb, leb}
+use lib.ListN.{length, getD, set}
+use Rattle.wire.specs.Refusals.{Refusal, first, _else_}
+use Rattle.ring.specs.Ring.{next, seen}
+use Rattle.ring.specs.declared.Side.{Side}
+use Rattle.ring.specs.declared.Side.the-variants.{Ahead, Behind, Far}
+use Rattle.larq.specs.Channel as channel
+use Rattle.larq.specs.Channel.{Cell, Channel, waits, missing, headMissing, times, orderly, sound, reach}
+use Rattle.larq.specs.Answer.{Change, Outcome, refused, accepted, holds}
+use Rattle.larq.specs.Events.{Act, act-on, sideOf}
+use Rattle.larq.specs.Table.{one, lentEnough, numberInRing, notBefore, reminderNear}
+use Rattle.channel.specs.Place.{window, cellAt, spanOf, recordWith, recordOf}
+use Rattle.channel.specs.Call.{Wrote, Buffers, Parts, parts, buffers, Answered, Became, Says, Did, Called, ruleAt}
+use Rattle.channel.specs.Judge.{lentAt}
+use Rattle.channel.specs.declared.Answer.{Answer}
+use Rattle.channel.specs.declared.record.Record.{Record}
+use Rattle.channel.proofs.Windows.{length-window}
+use Rattle.channel.proofs.Laying.{wrote-idle}
+use Rattle.channel.proofs.Opening.{Stopped, Opened, passes}
+
+-- The handles have no part in whether a record is broken.
+times-window : (w h k : List ℕ) (m n : ℕ) → times (window (cellAt w h k) m n) ≡ times (window (cellAt w [] k) m n)
+unfolding window
+times-window w h k m zero = refl
+times-window w h k m (suc n) = by-mark (eqb (getD k (m % 32) 0) 0) (times-window w h k (next m) n)
+  where
+    by-mark : (b : Bool) → times (window (cellAt w h k) (next m) n) ≡ times (window (cellAt w [] k) (next m) n)
+        → times (cond b (missing (getD w (3 + m % 32) 0)) (waits (getD h (m % 32) 0)) ∷ window (cellAt w h k) (next m) n)
+        ≡ times (cond b (missing (getD w (3 + m % 32) 0)) (waits (getD [] (m % 32) 0)) ∷ window (cellAt w [] k) (next m) n)
+    by-mark true i = ap (λ l. getD w (3 + m % 32) 0 ∷ l) i
+    by-mark false i = i
+
+head-window : (w h k : List ℕ) (m n : ℕ) → headMissing (window (cellAt w h k) m n) ≡ headMissing (window (cellAt w [] k) m n)
+unfolding window
+head-window w h k m zero = refl
+head-window w h k m (suc n) = by-mark (eqb (getD k (m % 32) 0) 0)
+  where
+    by-mark : (b : Bool) → headMissing (cond b (missing (getD w (3 + m % 32) 0)) (waits (getD h (m % 32) 0)) ∷ window (cellAt w h k) (next m) n)
+        ≡ headMissing (cond b (missing (getD w (3 + m % 32) 0)) (waits (getD [] (m % 32) 0)) ∷ window (cellAt w [] k) (next m) n)
+    by-mark true = refl
+    by-mark false = refl
+
+pub sound-handles : (w h k : List ℕ) → sound channel.window (recordOf w h k) ≡ sound channel.window (recordOf w [] k)
+unfolding sound recordWith
+sound-handles w h k =
+    let c = getD w 0 0 in
+    let m = getD w 1 0 in
+    let n = spanOf c m in
+    rw (length-window (cellAt w h k) m n, length-window (cellAt w [] k) m n, head-window w h k m n, times-window w h k m n)
+
+-- the number of the first test that fails, and what is answered where all pass
+by-tests : {A : Type 0} (refuse : ℕ → A) (good : A) (a b c d : Bool) (n : ℕ) → first ((a else 1) ∷ ((b else 2) ∷ ((c else 6) ∷ ((d else 7) ∷ [])))) ≡ n → 0 < n
+    → cond a (cond b (cond c (cond d good (refuse 7)) (refuse 6)) (refuse 2)) (refuse 1) ≡ refuse n
+by-tests refuse good false b c d n e p = ap refuse e
+by-tests refuse good true false c d n e p = ap refuse e
+by-tests refuse good true true false d n e p = ap refuse e
+by-tests refuse good true true true false n e p = ap refuse e
+by-tests refuse good true true true true n e p = absurd (let z : ⊥ = omega arith in z)
+
+-- All counts are 0, and no buffer is touched.
+pub answered-none : {n : ℕ} {change : Change ℕ} {b : Buffers} {a : Answer} → Says n 0 0 0 0 a
+    → Answered (record { answer = record { number = n; up = []; returned = []; nack = []; lost = 0 }; change = change }) b b a
+answered-none says =
+    record {
+      number = says .number;
+      up = record { count = says .up; buffer = refl };
+      returned = record { count = says .returned; buffer = refl };
+      nack = record { count = says .nack; buffer = refl };
+      lost = says .lost;
+    }
+
+-- A refusal touches nothing.
+pub did-nothing : {n : ℕ} {p : Parts} {b : Buffers} {a : Answer} → Says n 0 0 0 0 a → Did (refused n) p p b b a
+did-nothing says = record { answered = answered-none says; became = refl }
+
+-- The same outcome, told in another way.
+pub did-as : {o o′ : Outcome ℕ} {before after : Parts} {had has : Buffers} {a : Answer} → o ≡ o′ → Did o′ before after had has a
+    → Did o before after had has a
+did-as {o} {o′} {before} {after} {had} {has} {a} e d =
+    record {
+      answered = subst⁻¹ (λ (x : Outcome ℕ). Answered x had has a) e (d .answered);
+      became = subst⁻¹ (λ (x : Outcome ℕ). Became (x .change) before after) e (d .became);
+    }
+
+-- A buffer that a function was not lent stays as it is.
+module _ {o : Outcome ℕ} {before after : Parts} {a : Answer} where
+  pub did-up : {B b N n : List ℕ} (U : List ℕ) → Did o before after (buffers [] B N) (buffers [] b n) a
+      → Did o before after (buffers U B N) (buffers U b n) a
+  did-up U d =
+      let x = d .answered in
+      record {
+        answered = record { number = x .number; up = wrote-idle _ U _ (x .up); returned = x .returned; nack = x .nack; lost = x .lost };
+        became = d .became;
+      }
+
+  pub did-returned : {U u N n : List ℕ} (B : List ℕ) → Did o before after (buffers U [] N) (buffers u [] n) a
+      → Did o before after (buffers U B N) (buffers u B n) a
+  did-returned B d =
+      let x = d .answered in
+      record {
+        answered = record { number = x .number; up = x .up; returned = wrote-idle _ B _ (x .returned); nack = x .nack; lost = x .lost };
+        became = d .became;
+      }
+
+  pub did-nack : {U u B b : List ℕ} (N : List ℕ) → Did o before after (buffers U B []) (buffers u b []) a
+      → Did o before after (buffers U B N) (buffers u b N) a
+  did-nack N d =
+      let x = d .answered in
+      record {
+        answered = record { number = x .number; up = x .up; returned = x .returned; nack = wrote-idle _ N _ (x .nack); lost = x .lost };
+        became = d .became;
+      }
+
+module _ (p : Parts) (b : Buffers) (s time : ℕ) (act : Act ℕ) (number : numberInRing act ≡ leb s 4095) where
+  abbrev c : Channel ℕ
+  c = recordOf (p .words) (p .handles) (p .marks)
+
+  -- what the event does, or number 8
+  abbrev done : Outcome ℕ
+  done = cond (reminderNear channel.window act c) (act-on channel.window c time act) (refused 8)
+
+  -- the four tests that every event has
+  abbrev lent : Bool
+  lent = lentEnough channel.window (lentAt p b)
+
+  abbrev whole : Bool
+  whole = sound channel.window (recordOf (p .words) [] (p .marks))
+
+  abbrev late : Bool
+  late = notBefore time (recordOf (p .words) [] (p .marks))
+
+  rule-is : ruleAt p b time act ≡ cond lent (cond (leb s 4095) (cond whole (cond late done (refused 7)) (refused 6)) (refused 2)) (refused 1)
+  unfolding one recordWith
+  rule-is = rw (number, sound-handles (p .words) (p .handles) (p .marks))
+
+  rule-stopped : {n : ℕ} → Stopped p b s time n → ruleAt p b time act ≡ refused n
+  rule-stopped {n} stopped = rule-is ∙ by-tests refused done lent (leb s 4095) whole late n (stopped .by .is) (stopped .by .some)
+
+  rule-opened : {r : Record} → Opened p b s time r → ruleAt p b time act ≡ done
+  rule-opened opened = let e = passes opened in rule-is ∙ rw (e .0, e .1, e .2, e .3)
+
+called : {p after : Parts} {b has : Buffers} {time : ℕ} {act : Act ℕ} {o : Outcome ℕ} {a : Answer} → ruleAt p b time act ≡ o → Did o p after b has a
+    → Called act time p after b has a
+called e d = let x = did-as e d in record { answered = x .answered; became = x .became }
+
+module _ {p : Parts} {b : Buffers} {s time : ℕ} (act : Act ℕ) (number : numberInRing act ≡ leb s 4095) where
+  -- a refusal changes nothing
+  pub called-stopped : {n : ℕ} {a : Answer} → Stopped p b s time n → Says n 0 0 0 0 a → Called act time p p b b a
+  called-stopped stopped says = called (rule-stopped p b s time act number stopped) (did-nothing says)
+
+  pub called-opened : {r : Record} {o : Outcome ℕ} {after : Parts} {has : Buffers} {a : Answer} → Opened p b s time r
+      → done p b s time act number ≡ o → Did o p after b has a → Called act time p after b has a
+  called-opened opened e d = called (rule-opened p b s time act number opened ∙ e) d

@@ -1,0 +1,71 @@
+-- A data frame by where its number lies: what was done is what the rules say of it. Document 01, 'Data'. Assumes nothing.
+use Prim.Native.Nat.{ℕ, _-_, _≤_, _<_}
+use mathlib.Core.Path.{_≡_, refl, ap, sym, _∙_}
+use mathlib.Core.List.{List, [], _∷_}
+use native.Mathlib.Omega.{arith}
+use lib.ListN.{length, set}
+use Rattle.ring.specs.Ring.{seen}
+use Rattle.ring.specs.declared.Side.{Side}
+use Rattle.ring.specs.declared.Side.the-variants.{Ahead, Behind, Far}
+use Rattle.larq.specs.Channel as channel
+use Rattle.larq.specs.Channel.{waits, reach, Channel}
+use Rattle.larq.specs.Answer.{Outcome, accepted, holds}
+use Rattle.larq.specs.Events.{frame, act-on, data-on, ahead, restarted, sideOf, taken}
+use Rattle.channel.specs.Place.{recordWith, recordOf}
+use Rattle.channel.specs.Call.{Parts, Buffers, parts, buffers, Says, Did, Called}
+use Rattle.channel.specs.Steps.{Ready, recordIn, filledAt, dataAt}
+use Rattle.channel.specs.Judge.{MissingAt, KnownAt}
+use Rattle.channel.specs.declared.Answer.{Answer}
+use Rattle.channel.specs.declared.record.Record.{Record}
+use Rattle.channel.proofs.Laying.{wrote-none, wrote-one}
+use Rattle.channel.proofs.Places.{record-taken}
+use Rattle.channel.proofs.Opening.{Opened, ready}
+use Rattle.channel.proofs.StepBehind.{rule-known}
+use Rattle.channel.proofs.Calling.{did-as, did-returned, did-nack, called-opened}
+
+module _ {r : Record} {W H K : List ℕ} (s x t : ℕ) (is-ready : Ready r W H K) where
+  abbrev c : Channel ℕ
+  c = recordIn r W H K
+
+  rule-by : {lies : Side} → seen (reach channel.window) (r .current .0) s ≡ lies → dataAt c t s x ≡ data-on channel.window c t s x lies
+  unfolding recordWith
+  rule-by is = ap (data-on channel.window c t s x) is
+
+  pub frame-ahead : {d : ℕ} {after : Parts} {U u N n : List ℕ} {a : Answer} (B : List ℕ) → seen (reach channel.window) (r .current .0) s ≡ Ahead d
+      → Did (ahead channel.window c t s (d - 1) (waits x ∷ [])) (parts W H K) after (buffers U [] N) (buffers u [] n) a
+      → Did (dataAt c t s x) (parts W H K) after (buffers U B N) (buffers u B n) a
+  frame-ahead B is did = did-as (rule-by is) (did-returned B did)
+
+  pub frame-missing : {after : Parts} {U u : List ℕ} {a : Answer} (B N : List ℕ) → MissingAt r K s
+      → Did (filledAt c t s x) (parts W H K) after (buffers U [] []) (buffers u [] []) a
+      → Did (dataAt c t s x) (parts W H K) after (buffers U B N) (buffers u B N) a
+  frame-missing B N at did = did-as (rule-by (at .behind .is)) (did-nack N (did-returned B did))
+
+  pub frame-far : {after : Parts} {U u B b : List ℕ} {a : Answer} (N : List ℕ) → seen (reach channel.window) (r .current .0) s ≡ Far
+      → Did (restarted c t s x) (parts W H K) after (buffers U B []) (buffers u b []) a
+      → Did (dataAt c t s x) (parts W H K) after (buffers U B N) (buffers u b N) a
+  frame-far N is did = did-as (rule-by is) (did-nack N did)
+
+  -- the handle comes back, and the latest time is laid down
+  pub frame-known : {w b : List ℕ} {a : Answer} (U B N : List ℕ) → KnownAt r K s → 0 < length B → w ≡ set W 2 t → b ≡ set B 0 x
+      → Says 0 0 1 0 0 a → Did (dataAt c t s x) (parts W H K) (parts w H K) (buffers U B N) (buffers U b N) a
+  frame-known U B N at room ew eb says =
+      did-as
+      (rule-by (at .behind .is) ∙ rule-known is-ready s x t at ∙ ap (λ y. accepted [] (x ∷ []) [] 0 (holds (taken y t))) (is-ready .held))
+      (record {
+        answered = record {
+          number = says .number;
+          up = rw (says .up) (wrote-none U);
+          returned = rw (eb, says .returned) (wrote-one B x room);
+          nack = rw (says .nack) (wrote-none N);
+          lost = says .lost;
+        };
+        became = rw ew (record-taken W H K t (omega (arith, is-ready .sized .words)));
+      })
+
+-- a frame that no number refuses
+pub called-frame : {p after : Parts} {b has : Buffers} {s time : ℕ} {r : Record} {a : Answer} (x : ℕ) → Opened p b s time r
+    → Did (dataAt (recordIn r (p .words) (p .handles) (p .marks)) time s x) p after b has a → Called (frame s x) time p after b has a
+unfolding act-on
+called-frame {s = s} {time = time} x opened did =
+    called-opened (frame s x) refl opened (ap (λ y. dataAt y time s x) (sym (ready opened .held))) did

@@ -1,0 +1,148 @@
+-- What the calls of a step ahead leave is what the rules say: the handles that M passed and those that it met then go up, the numbers that
+-- stay missing are asked for, and the place means the settled record. Assumes nothing.
+use Prim.Native.Nat.{ℕ, _+_, _-_, _%_, _≤_, _<_}
+use mathlib.Core.Path.{_≡_, refl, ap, ap₂, sym, _∙_}
+use mathlib.Core.List.{List, [], _++_}
+use native.Mathlib.Omega.{arith}
+use native.Mathlib.Nat.{zero-add}
+use lib.ListN.{length, getD, length-append, length-set}
+use Rattle.ring.specs.Ring.{forward, steps, rising}
+use Rattle.ring.proofs.Steps.{forward-small, length-rising}
+use Rattle.larq.specs.Channel as channel
+use Rattle.larq.specs.Settling.{Walked, walk, wide}
+use Rattle.larq.specs.Answer.{accepted, holds}
+use Rattle.larq.specs.Events.{ahead, settledAt, moved}
+use Rattle.channel.specs.Place.{window, cellAt, recordWith}
+use Rattle.channel.specs.Call.{Did, parts, buffers}
+use Rattle.channel.specs.Slots.{Laid, stamped, waitingOf, earlier}
+use Rattle.channel.specs.Steps.{Sized, Ready, recordIn, spanIn, walkOf, Finished, IsGrown, cellsOf, handlesWith, marksWith, IsAhead, Entered}
+use Rattle.channel.specs.declared.Answer.{Answer}
+use Rattle.channel.specs.declared.record.Record.{Record}
+use Rattle.channel.specs.declared.record.Grown.{Grown}
+use Rattle.channel.specs.declared.act.Last.{Last}
+use Rattle.channel.specs.declared.act.Last.the-variants.{Waits, Missing}
+use Rattle.channel.proofs.Laying.{laid-length, laid-laid, wrote-front, wrote-none}
+use Rattle.channel.proofs.Waiting.{waiting-short}
+use Rattle.channel.proofs.Stamping.{length-stamped}
+use Rattle.channel.proofs.Growing.{Grows, new-cell, walk-again, past-few, span-again, walk-grown, up-room, asked-grown}
+
+length-handles : (last : Last) (s : ℕ) (l : List ℕ) → length (handlesWith last s l) ≡ length l
+length-handles (Waits x) s l = length-set l (s % 32) x
+length-handles Missing s l = refl
+
+length-marks : (last : Last) (s : ℕ) (l : List ℕ) → length (marksWith last s l) ≡ length l
+length-marks (Waits x) s l = length-set l (s % 32) 1
+length-marks Missing s l = refl
+
+module _ {r : Record} {W H K : List ℕ} {s k t : ℕ} {last : Last} {to : Grown} (ready : Ready r W H K) (s-ring : s < 4096)
+    (is-ahead : IsAhead (r .current .0) s k last) (is : IsGrown r s k t to) where
+  abbrev m : ℕ
+  m = r .oldest .0
+
+  abbrev past : ℕ
+  past = to .over - spanIn r
+
+  grows : Grows channel.window (r .current .0) m s k (spanIn r) (steps (r .current .0) s) (to .over) past (to .count) (to .first .0) last
+  grows =
+      record {
+        window-some = omega arith;
+        window-fits = omega arith;
+        m-ring = ready .oldest;
+        s-ring = s-ring;
+        n-is = refl;
+        n-fits = ready .narrow;
+        d-is = refl;
+        d-some = is-ahead .some;
+        d-near = is-ahead .near;
+        d-all = is-ahead .all;
+        over-is = is .over;
+        past-is = refl;
+        count-is = is .count;
+        first-is = is .first;
+      }
+
+  head : 0 < spanIn r → getD K (m % 32) 0 ≡ 0
+  head = ready .head
+
+  -- the handles that M passes at once
+  abbrev handed : List ℕ
+  handed = waitingOf H K m (to .old)
+
+  handed-is : handed ≡ waitingOf H K m (to .over - past)
+  handed-is = ap (waitingOf H K m) (is .old)
+
+  abbrev again : Walked ℕ
+  again = walk-again grows W H K (ready .sized) t
+
+  rule-ahead : ahead channel.window (recordIn r W H K) t s k (cellsOf last)
+      ≡ accepted (handed ++ again .up) [] (rising (to .first .0) (to .count)) (to .over - length handed + again .lost) (holds (moved s t again))
+  unfolding recordWith
+  rule-ahead =
+      ap (settledAt (recordIn r W H K) t s k) (walk-grown grows W H K (ready .sized) t)
+      ∙ ap₂ (λ x y. accepted (x ++ again .up) [] y (to .over - length x + again .lost) (holds (moved s t again))) (sym handed-is)
+      (asked-grown grows W H K (ready .sized) t (recordIn r W H K) refl)
+
+  -- M goes by no more numbers at once than it has to pass
+  pub handed-room : to .old ≤ 32
+  handed-room = omega (arith, is .old, ready .narrow)
+
+  pub handed-few : length handed ≤ to .over
+  handed-few = omega (arith, is .old, waiting-short H K m (to .old))
+
+  pub count-room : to .count ≤ 32
+  count-room = omega (arith, is .count, is .over, is-ahead .near, is-ahead .all, past-few grows)
+
+  -- The calls, one after the other: those that M passes at once go up, the new numbers enter, and M settles.
+  module _ {U u₁ N w₁ h₁ k₁ q₁ : List ℕ} {end : ℕ} (room-up : 32 ≤ length U) (room-nack : 32 ≤ length N) (handing : Laid handed 0 U u₁ end)
+      (entered : Entered (to .first .0) (to .count) t s last (parts W H K) N (parts w₁ h₁ k₁) q₁) where
+    walk-to : walkOf (to .kept) 0 w₁ h₁ k₁ ≡ again
+    walk-to =
+        rw (is .current, is .oldest, entered .words, entered .handles, entered .marks)
+        (ap (λ x. walk (earlier 0) (forward m (to .over)) (window (new-cell grows W H K (ready .sized) t) (forward m (to .over)) x)) (span-again grows))
+
+    up-to : length (walkOf (to .kept) 0 w₁ h₁ k₁ .up) ≡ length (again .up)
+    up-to = ap (λ p. length (p .up)) walk-to
+
+    up-few : length handed + length (again .up) ≤ 32
+    up-few = rw (← handed-is) at (up-room grows W H K (ready .sized) t head)
+
+    pub entered-sized : Sized w₁ h₁ k₁
+    entered-sized =
+        record {
+          words = ap length (entered .words) ∙ length-stamped 3 t W (to .first .0) (to .count) ∙ ready .sized .words;
+          handles = ap length (entered .handles) ∙ length-handles last s H ∙ ready .sized .handles;
+          marks =
+              ap length (entered .marks)
+              ∙ length-marks last s (stamped 0 K (to .first .0) (to .count) 0)
+              ∙ length-stamped 0 0 K (to .first .0) (to .count)
+              ∙ ready .sized .marks;
+        }
+
+    pub settle-room : (to .kept .oldest .0 < 4096) × (to .over - end ≤ 4096) × (end + length (walkOf (to .kept) 0 w₁ h₁ k₁ .up) ≤ length u₁)
+    settle-room = (
+      rw (is .oldest) (forward-small m (to .over)),
+      omega (arith, is .over, ready .narrow, is-ahead .near),
+      omega (arith, handing .end-is, up-to, up-few, laid-length handing),
+    )
+
+    pub ahead-did : {w₂ u₂ : List ℕ} {asked : ℕ} {a : Answer} → asked ≡ to .count
+        → Finished (to .kept) 0 w₁ h₁ k₁ end asked (to .over - end) u₁ w₂ u₂ a
+        → Did (ahead channel.window (recordIn r W H K) t s k (cellsOf last)) (parts W H K) (parts w₂ h₁ k₁) (buffers U [] N) (buffers u₂ [] q₁) a
+    ahead-did {w₂} {u₂} {asked} {a} e f =
+        let all : Laid (handed ++ again .up) 0 U u₂ (a .up) = laid-laid handing (rw walk-to at (f .up)) in
+        rw rule-ahead
+        (record {
+          answered = record {
+            number = f .number;
+            up = wrote-front all (omega (arith, length-append handed (again .up), up-few));
+            returned = rw (f .returned) (wrote-none []);
+            nack =
+                wrote-front (record { end-is = f .nack ∙ e ∙ sym (zero-add _ ∙ length-rising (to .first .0) (to .count)); buffer = entered .asked })
+                (rw (length-rising (to .first .0) (to .count)) (omega (arith, room-nack, count-room)));
+            lost = f .lost-all ∙ ap₂ (λ x y. to .over - x + y) (handing .end-is ∙ zero-add _) (ap (λ p. p .lost) walk-to);
+          };
+          became =
+              f .became
+              ∙ ap (moved (to .kept .current .0) (to .kept .latest)) walk-to
+              ∙ ap₂ (λ x y. moved x y again) (is .current) (is .latest);
+        })

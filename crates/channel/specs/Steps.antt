@@ -1,0 +1,120 @@
+-- What the functions inside the crate ask for and promise.
+use Prim.Native.Nat.{ℕ, _+_, _-_, _≤_, _<_, _%_}
+use mathlib.Core.Path.{_≡_}
+use mathlib.Core.Bool.{cond}
+use mathlib.Core.List.{List, [], _∷_}
+use lib.ListN.{length, getD, set}
+use lib.Seq.{sets}
+use Rattle.ring.specs.Ring.{forward, steps, rising}
+use Rattle.larq.specs.Channel.{Cell, waits, Channel}
+use Rattle.larq.specs.Settling.{Walked, walk}
+use Rattle.larq.specs.Channel as channel
+use Rattle.larq.specs.Answer.{Outcome, refused}
+use Rattle.larq.specs.Events.{moved, filling, filled, data-on, reminder-on, sideOf}
+use Rattle.larq.specs.Table.{notFar}
+use Rattle.channel.specs.Place.{window, cellAt, spanOf, recordWith, recordOf}
+use Rattle.channel.specs.Slots.{earlier, stamped, Laid}
+use Rattle.channel.specs.Call.{Parts}
+use Rattle.channel.specs.declared.Answer.{Answer}
+use Rattle.channel.specs.declared.record.Record.{Record}
+use Rattle.channel.specs.declared.record.Grown.{Grown}
+use Rattle.channel.specs.declared.window.Settled.{Settled}
+use Rattle.channel.specs.declared.act.Last.{Last}
+use Rattle.channel.specs.declared.act.Last.the-variants.{Waits, Missing}
+
+-- the parts of a place are as long as they should be
+pub record Sized (w h k : List ℕ) : Type 0 where
+  pub words : length w ≡ 35
+  pub handles : length h ≡ 32
+  pub marks : length k ≡ 32
+
+-- the record of a place whose C, M and latest time are at hand
+abbrev pub recordIn : Record → List ℕ → List ℕ → List ℕ → Channel ℕ
+recordIn r words handles marks = recordWith (r .current .0) (r .oldest .0) (r .latest) words handles marks
+
+-- its span
+abbrev pub spanIn : Record → ℕ
+spanIn r = spanOf (r .current .0) (r .oldest .0)
+
+-- what an event that is not refused finds: the record that the place holds, not broken. The times of missing numbers need not be told here
+pub record Ready (r : Record) (w h k : List ℕ) : Type 0 where
+  pub sized : Sized w h k
+  pub held : recordIn r w h k ≡ recordOf w h k
+  pub current : r .current .0 < 4096
+  pub oldest : r .oldest .0 < 4096
+  pub narrow : spanIn r ≤ 32
+  pub head : 0 < spanIn r → getD k (r .oldest .0 % 32) 0 ≡ 0
+
+-- a place's words with C, M and the latest time put anew
+abbrev pub headed : List ℕ → ℕ → ℕ → ℕ → List ℕ
+headed words c m t = set (set (set words 0 c) 1 m) 2 t
+
+-- M's walk over the window of a record
+abbrev pub walkOf : Record → ℕ → List ℕ → List ℕ → List ℕ → Walked ℕ
+walkOf r until words handles marks =
+    walk (earlier until) (r .oldest .0) (window (cellAt words handles marks) (r .oldest .0) (spanIn r))
+
+pub record Settles (r : Record) (until : ℕ) (words handles marks : List ℕ) (at : ℕ) (before after : List ℕ) (s : Settled) : Type 0 where
+  pub up : Laid (walkOf r until words handles marks .up) at before after (s .up)
+  pub lost : s .lost ≡ walkOf r until words handles marks .lost
+  pub oldest : s .kept .oldest .0 ≡ walkOf r until words handles marks .oldest
+  pub current : s .kept .current .0 ≡ r .current .0
+  pub latest : s .kept .latest ≡ r .latest
+
+-- M has settled and the record is laid down, in a call that had handed up `at` handles, asked for `asked` numbers and lost `lost`
+pub record Finished (r : Record) (until : ℕ) (w h k : List ℕ) (at asked lost : ℕ) (before w′ after : List ℕ) (a : Answer) : Type 0 where
+  pub number : a .number ≡ 0
+  pub up : Laid (walkOf r until w h k .up) at before after (a .up)
+  pub returned : a .returned ≡ 0
+  pub nack : a .nack ≡ asked
+  pub lost-all : a .lost ≡ lost + walkOf r until w h k .lost
+  pub became : recordOf w′ h k ≡ moved (r .current .0) (r .latest) (walkOf r until w h k)
+
+-- a step ahead to s, by which so many numbers become missing: the window when M has passed what is then too much
+pub record IsGrown (r : Record) (s made time : ℕ) (g : Grown) : Type 0 where
+  pub over : g .over ≡ spanIn r + steps (r .current .0) s - 32
+  pub old : g .old ≡ g .over - (g .over - spanIn r)
+  pub first : g .first .0 ≡ forward (r .current .0) (1 + (g .over - spanIn r))
+  pub count : g .count ≡ made - (g .over - spanIn r)
+  pub current : g .kept .current .0 ≡ s
+  pub oldest : g .kept .oldest .0 ≡ forward (r .oldest .0) (g .over)
+  pub latest : g .kept .latest ≡ time
+
+-- how the last number of a step ahead comes
+abbrev pub cellsOf : Last → List (Cell ℕ)
+cellsOf (Waits handle) = waits handle ∷ []
+cellsOf Missing = []
+
+abbrev pub handlesWith : Last → ℕ → List ℕ → List ℕ
+handlesWith (Waits handle) s handles = set handles (s % 32) handle
+handlesWith Missing s handles = handles
+
+abbrev pub marksWith : Last → ℕ → List ℕ → List ℕ
+marksWith (Waits handle) s marks = set marks (s % 32) 1
+marksWith Missing s marks = marks
+
+-- s lies ahead of c by 1 to 64: so many numbers become missing, and s is the last of them or comes after them
+pub record IsAhead (c s made : ℕ) (last : Last) : Type 0 where
+  pub some : 0 < steps c s
+  pub near : steps c s ≤ 64
+  pub all : steps c s ≡ made + length (cellsOf last)
+
+-- the slots of a step ahead: `count` numbers from `first` on are missing and asked for, and the last has come
+pub record Entered (first count time s : ℕ) (last : Last) (before : Parts) (nack : List ℕ) (after : Parts) (nack′ : List ℕ) : Type 0 where
+  pub words : after .words ≡ stamped 3 (before .words) first count time
+  pub handles : after .handles ≡ handlesWith last s (before .handles)
+  pub marks : after .marks ≡ marksWith last s (stamped 0 (before .marks) first count 0)
+  pub asked : nack′ ≡ sets nack 0 (rising first count)
+
+-- s lies behind, as the rules have it
+abbrev pub filledAt : Channel ℕ → ℕ → ℕ → ℕ → Outcome ℕ
+filledAt c t s h = filled channel.window c t h (filling (c .cells) (steps (c .oldest) s) h)
+
+-- a frame at a record that is not broken
+abbrev pub dataAt : Channel ℕ → ℕ → ℕ → ℕ → Outcome ℕ
+dataAt c t s h = data-on channel.window c t s h (sideOf channel.window c s)
+
+-- a reminder at a record that is not broken: number 8 refuses it from far
+abbrev pub reminderAt : Channel ℕ → ℕ → ℕ → Outcome ℕ
+reminderAt c t s =
+    cond (notFar (sideOf channel.window c s)) (reminder-on channel.window c t s (sideOf channel.window c s)) (refused 8)

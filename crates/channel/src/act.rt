@@ -1,0 +1,261 @@
+// What an accepted event does to a place and the buffers: nothing is decided here (document 01, 'The four channel events').
+ghost use mathlib.Core.Path.{_≡_};
+ghost use mathlib.Core.List.{[], _∷_};
+ghost use Prim.Native.Nat.{_+_, _-_, _≤_, _<_};
+ghost use lib.ListN.{length, set};
+ghost use Rattle.ring.specs.Ring.{steps};
+ghost use Rattle.larq.specs.Channel.{window};
+ghost use Rattle.larq.specs.Events.{ahead, restarted, tick-on, close-on};
+ghost use Rattle.larq.specs.Settling.{hold};
+ghost use Rattle.channel.specs.Place.{spanOf};
+ghost use Rattle.channel.specs.Call.{Did, Says, parts, buffers};
+ghost use Rattle.channel.specs.Steps.{Sized, Ready, recordIn, walkOf, Finished, cellsOf, handlesWith, marksWith, Entered, IsAhead, filledAt};
+ghost use Rattle.channel.specs.Judge.{MissingAt};
+use crate::Answer;
+use crate::record::Record;
+use crate::window::hand;
+use crate::window::miss;
+use crate::window::slot;
+use crate::zero::zero_handles;
+use crate::zero::zero_marks;
+use crate::zero::zero_words;
+use larq::HOLD;
+use ring::Seq;
+
+// How the last number of a step ahead comes: a frame brings it, and it waits with its handle; or it is only told of, and is missing too.
+pub(crate) enum Last {
+    Waits(u32),
+    Missing,
+}
+
+// The last number waits at its slot, if a frame brings it.
+fn bring(handles: &mut [u32], marks: &mut [u8], s: Seq, last: Last)
+    requires { ⌜ (length (now handles) ≡ 32) × (length (now marks) ≡ 32) ⌝ }
+    ensures { λ _. ⌜ (now (handles .exit) ≡ handlesWith last (s .0) (now (handles .entry))) × (now (marks .exit) ≡ marksWith last (s .0) (now (marks .entry))) ⌝ }
+{
+    if let Last::Waits(handle) = last {
+        let j = slot(s);
+        handles[j] = handle;
+        marks[j] = 1;
+    }
+}
+
+// M settles and the record is laid down. What goes up follows the `at` handles that went up before in this call, and those given up
+// are counted with the `lost` before; `asked` numbers have been asked for.
+fn settle(
+    r: Record,
+    words: &mut [u64],
+    handles: &[u32],
+    marks: &[u8],
+    up: &mut [u32],
+    at: usize,
+    asked: usize,
+    lost: usize,
+    until: u64,
+) -> Answer
+    requires { ⌜ Sized (now words) (now handles) (now marks) ⌝ }
+    requires { ⌜ (r .oldest .0 < 4096) × (lost ≤ 4096) × (at + length (walkOf r until (now words) (now handles) (now marks) .up) ≤ length (now up)) ⌝ }
+    ensures { λ a. ⌜ Finished r until (now (words .entry)) (now (handles .entry)) (now (marks .entry)) at asked lost (now (up .entry)) (now (words .exit)) (now (up .exit)) a ⌝ }
+{
+    let done = r.settled(words, handles, marks, up, at, until);
+    let kept = done.kept;
+    kept.stored(words);
+    Answer {
+        number: 0,
+        up: done.up,
+        returned: 0,
+        nack: asked,
+        lost: lost + done.lost,
+    }
+}
+
+// `count` numbers from `first` on become missing at this time and are asked for, and the last number comes: how many are asked for.
+fn enter(
+    words: &mut [u64],
+    handles: &mut [u32],
+    marks: &mut [u8],
+    nack: &mut [u16],
+    first: Seq,
+    count: u16,
+    s: Seq,
+    last: Last,
+    time: u64,
+) -> usize
+    requires { ⌜ Sized (now words) (now handles) (now marks) × (count ≤ length (now nack)) ⌝ }
+    ensures { λ r. ⌜ (r ≡ count) × Entered (first .0) count time (s .0) last (parts (now (words .entry)) (now (handles .entry)) (now (marks .entry))) (now (nack .entry)) (parts (now (words .exit)) (now (handles .exit)) (now (marks .exit))) (now (nack .exit)) ⌝ }
+{
+    miss(words, marks, nack, first, count, time);
+    bring(handles, marks, s, last);
+    count as usize
+}
+
+// Number s lies ahead: `made` numbers from C + 1 on become missing, s comes last, and M settles.
+pub(crate) fn ahead(
+    r: Record,
+    words: &mut [u64],
+    handles: &mut [u32],
+    marks: &mut [u8],
+    up: &mut [u32],
+    nack: &mut [u16],
+    s: Seq,
+    made: u16,
+    last: Last,
+    time: u64,
+) -> Answer
+    requires { ⌜ Ready r (now words) (now handles) (now marks) × (s .0 < 4096) ⌝ }
+    requires { ⌜ (32 ≤ length (now up)) × (32 ≤ length (now nack)) ⌝ }
+    requires { ⌜ IsAhead (r .current .0) (s .0) made last ⌝ }
+    ensures { λ a. ⌜ Did (ahead window (recordIn r (now (words .entry)) (now (handles .entry)) (now (marks .entry))) time (s .0) made (cellsOf last)) (parts (now (words .entry)) (now (handles .entry)) (now (marks .entry))) (parts (now (words .exit)) (now (handles .exit)) (now (marks .exit))) (buffers (now (up .entry)) [] (now (nack .entry))) (buffers (now (up .exit)) [] (now (nack .exit))) a ⌝ }
+{
+    let g = r.grown(s, made, time);
+    let passed = hand(handles, marks, r.oldest, g.old, up, 0);
+    let asked = enter(words, handles, marks, nack, g.first, g.count, s, last, time);
+    let kept = g.kept;
+    settle(
+        kept,
+        words,
+        handles,
+        marks,
+        up,
+        passed,
+        asked,
+        g.over - passed,
+        0,
+    )
+}
+
+// Number s is in the window and missing: it waits, and M settles.
+pub(crate) fn filled(
+    r: Record,
+    words: &mut [u64],
+    handles: &mut [u32],
+    marks: &mut [u8],
+    up: &mut [u32],
+    s: Seq,
+    handle: u32,
+    time: u64,
+) -> Answer
+    requires { ⌜ Ready r (now words) (now handles) (now marks) × MissingAt r (now marks) (s .0) ⌝ }
+    requires { ⌜ 32 ≤ length (now up) ⌝ }
+    ensures { λ a. ⌜ Did (filledAt (recordIn r (now (words .entry)) (now (handles .entry)) (now (marks .entry))) time (s .0) handle) (parts (now (words .entry)) (now (handles .entry)) (now (marks .entry))) (parts (now (words .exit)) (now (handles .exit)) (now (marks .exit))) (buffers (now (up .entry)) [] []) (buffers (now (up .exit)) [] []) a ⌝ }
+{
+    bring(handles, marks, s, Last::Waits(handle));
+    let kept = r.arrived(r.current, time);
+    settle(kept, words, handles, marks, up, 0, 0, 0, 0)
+}
+
+// Number s waits already or lies before M: its handle comes back, and only the latest time changes.
+pub(crate) fn sent_back(words: &mut [u64], returned: &mut [u32], handle: u32, time: u64) -> Answer
+    requires { ⌜ (2 < length (now words)) × (0 < length (now returned)) ⌝ }
+    ensures { λ a. ⌜ (now (words .exit) ≡ set (now (words .entry)) 2 time) × (now (returned .exit) ≡ set (now (returned .entry)) 0 handle) × Says 0 0 1 0 0 a ⌝ }
+{
+    words[2] = time;
+    returned[0] = handle;
+    Answer {
+        number: 0,
+        up: 0,
+        returned: 1,
+        nack: 0,
+        lost: 0,
+    }
+}
+
+// Number s is far: every waiting handle comes back, and the channel is as one that s has just opened.
+pub(crate) fn restarted(
+    r: Record,
+    words: &mut [u64],
+    handles: &[u32],
+    marks: &[u8],
+    up: &mut [u32],
+    returned: &mut [u32],
+    s: Seq,
+    handle: u32,
+    time: u64,
+) -> Answer
+    requires { ⌜ Ready r (now words) (now handles) (now marks) × (s .0 < 4096) ⌝ }
+    requires { ⌜ (32 ≤ length (now up)) × (32 ≤ length (now returned)) ⌝ }
+    ensures { λ a. ⌜ Did (restarted (recordIn r (now (words .entry)) (now (handles .entry)) (now (marks .entry))) time (s .0) handle) (parts (now (words .entry)) (now (handles .entry)) (now (marks .entry))) (parts (now (words .exit)) (now (handles .entry)) (now (marks .entry))) (buffers (now (up .entry)) (now (returned .entry)) []) (buffers (now (up .exit)) (now (returned .exit)) []) a ⌝ }
+{
+    let count = hand(handles, marks, r.oldest, r.span(), returned, 0);
+    up[0] = handle;
+    Record::opened(s, time).stored(words);
+    Answer {
+        number: 0,
+        up: 1,
+        returned: count,
+        nack: 0,
+        lost: 0,
+    }
+}
+
+// Nothing but the latest time changes.
+pub(crate) fn noted(words: &mut [u64], time: u64) -> Answer
+    requires { ⌜ 2 < length (now words) ⌝ }
+    ensures { λ a. ⌜ (now (words .exit) ≡ set (now (words .entry)) 2 time) × Says 0 0 0 0 0 a ⌝ }
+{
+    words[2] = time;
+    Answer {
+        number: 0,
+        up: 0,
+        returned: 0,
+        nack: 0,
+        lost: 0,
+    }
+}
+
+// A tick gives up at `time` what is missing since before this: 150 or more ticks ago.
+fn given_up_before(time: u64) -> u64
+    ensures { λ r. ⌜ r ≡ time + 1 - hold ⌝ }
+{
+    if HOLD <= time { time - HOLD + 1 } else { 0 }
+}
+
+// A tick: M moves on over what is missing for too long, and over what waits.
+pub(crate) fn ticked(
+    r: Record,
+    words: &mut [u64],
+    handles: &[u32],
+    marks: &[u8],
+    up: &mut [u32],
+    time: u64,
+) -> Answer
+    requires { ⌜ Ready r (now words) (now handles) (now marks) × (32 ≤ length (now up)) ⌝ }
+    ensures { λ a. ⌜ Did (tick-on (recordIn r (now (words .entry)) (now (handles .entry)) (now (marks .entry))) time) (parts (now (words .entry)) (now (handles .entry)) (now (marks .entry))) (parts (now (words .exit)) (now (handles .entry)) (now (marks .entry))) (buffers (now (up .entry)) [] []) (buffers (now (up .exit)) [] []) a ⌝ }
+{
+    let kept = r.arrived(r.current, time);
+    settle(
+        kept,
+        words,
+        handles,
+        marks,
+        up,
+        0,
+        0,
+        0,
+        given_up_before(time),
+    )
+}
+
+// A close: every waiting handle comes back, and the place is zeros.
+pub(crate) fn closed(
+    r: Record,
+    words: &mut [u64],
+    handles: &mut [u32],
+    marks: &mut [u8],
+    returned: &mut [u32],
+) -> Answer
+    requires { ⌜ Ready r (now words) (now handles) (now marks) × (32 ≤ length (now returned)) ⌝ }
+    ensures { λ a. ⌜ Did (close-on (recordIn r (now (words .entry)) (now (handles .entry)) (now (marks .entry)))) (parts (now (words .entry)) (now (handles .entry)) (now (marks .entry))) (parts (now (words .exit)) (now (handles .exit)) (now (marks .exit))) (buffers [] (now (returned .entry)) []) (buffers [] (now (returned .exit)) []) a ⌝ }
+{
+    let count = hand(handles, marks, r.oldest, r.span(), returned, 0);
+    zero_words(words);
+    zero_handles(handles);
+    zero_marks(marks);
+    Answer {
+        number: 0,
+        up: 0,
+        returned: count,
+        nack: 0,
+        lost: 0,
+    }
+}
