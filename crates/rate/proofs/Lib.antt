@@ -2,5 +2,3 @@ pub mod Accepted
 pub mod Frame
 pub mod Writable
 pub mod Tabled
-pub mod RoundTrip
-pub mod Again

@@ -57,7 +57,14 @@ writerRefusals q a room =
     ∷ (outputHolds q a room else 24)
     ∷ []
 
--- what the writer answers, and what the output then holds: the frame with the octets beyond it as they were, or all as it was
+-- what the writer answers: 0 and how many octets it wrote, or a refusal's number and 0
+unfoldable pub writeOf : Request → List ℕ → ℕ → Written
+writeOf q a room = answered (λ n. record { number = n; count = 0 }) (writerRefusals q a room) (record { number = 0; count = length (frameFor q a) })
+
+-- what the output then holds: the frame, with the octets beyond it as they were; refused, all is as it was
+unfoldable pub outputOf : Request → List ℕ → List ℕ → List ℕ
+outputOf q a before = answered (λ n. before) (writerRefusals q a (length before)) (frameFor q a ++ drop (length (frameFor q a)) before)
+
 pub record Wrote (q : Request) (a before after : List ℕ) (r : Written) : Type 0 where
-  pub answer : r ≡ answered (λ n. record { number = n; count = 0 }) (writerRefusals q a (length before)) (record { number = 0; count = length (frameFor q a) })
-  pub output : after ≡ answered (λ n. before) (writerRefusals q a (length before)) (frameFor q a ++ drop (length (frameFor q a)) before)
+  pub answer : r ≡ writeOf q a (length before)
+  pub output : after ≡ outputOf q a before

@@ -2,7 +2,7 @@
 -- Document 01, 'The rate request on the wire'. Assumes nothing but that SSLength is an octet.
 use mathlib.Core.Path.{_≡_, refl, _∙_, sym, ap}
 use mathlib.Core.Bool.{Bool, true, false, cond, not, _&&_, _||_}
-use mathlib.Core.List.{List, [], _∷_, _++_}
+use mathlib.Core.List.{List, [], _∷_, _++_, append-assoc}
 use mathlib.Core.Logic.{⊎-elim}
 use Prim.Native.Nat.{ℕ, suc, _+_, _*_, _-_, _/_, _%_, _≤_, _<_}
 use native.Mathlib.Nat.{eq-zero-or-pos}
@@ -10,19 +10,23 @@ use native.Mathlib.Omega.{arith}
 use borrow.Author.Tests.{leb-true, leb-false, eqb-true, eqb-false, le-leb, eq-eqb, not-true}
 use lib.Dec.{leb, eqb, lit<, lit≤}
 use lib.ListN.{length, take, drop, length-drop}
-use lib.Seq.{length-take-le, take-add, drop-drop}
+use lib.Seq.{length-take-le, take-add, drop-drop, take-at}
 use Rattle.wire.specs.Octets.{octetAt, sixAt, partAt}
 use Rattle.wire.specs.Refusals.{first}
 use Rattle.wire.specs.ShortFormat.{ethertypeRight, ssType, ssLength, ssVersion, headerLength, nextEthertypeZero}
+use Rattle.wire.proofs.Answered.{first-accepts}
 use Rattle.wire.proofs.Joined.{and-left, and-right}
 use Rattle.wire.proofs.Octets.{octetsFrom, take-octets}
 use Rattle.wire.proofs.Within.{le-within}
 use Rattle.rate.specs.declared.Request.{Request}
+use Rattle.rate.specs.declared.Reading.{Reading}
+use Rattle.rate.specs.declared.Written.{Written}
 use Rattle.rate.specs.Request.{opcodeRight, someBand, bandOneRight, bandTwoRight, ranksRight, groupAddresses}
-use Rattle.rate.specs.Reading.{opcodeOf, bandsOf, countOf, ofBandTwo, startOf, extentOf, addressesOf, requestOf, lengthFits, ssTypeRight, ssVersionRight, refusals}
-use Rattle.rate.specs.Writing.{ssLengthFor, fixedPart, bandPart, headerFor, frameFor, absentBandEmpty, layoutHolds, outputHolds, writerRefusals}
+use Rattle.rate.specs.Reading.{opcodeOf, bandsOf, countOf, ofBandTwo, startOf, extentOf, addressesOf, requestOf, lengthFits, ssTypeRight, ssVersionRight, refusals, refusedBy, accepted, readOf}
+use Rattle.rate.specs.Writing.{ssLengthFor, fixedPart, bandPart, headerFor, frameFor, absentBandEmpty, layoutHolds, outputHolds, writerRefusals, writeOf, outputOf, Wrote}
+use Rattle.roundtrip.specs.Trip.{WrittenAgain}
 use Rattle.rate.proofs.Accepted.{passed, header-within, lengths-agree, addresses-within}
 use Rattle.rate.proofs.Frame.{length-frame}
 
 module _ (s : List ℕ) (none : first (refusals s) ≡ 0) (two : bandsOf s ≤ 2) (octet : ssLength s ≤ 255) where
   abbrev q : Request
@@ -148,3 +152,47 @@ module _ (s : List ℕ) (none : first (refusals s) ≡ 0) (two : bandsOf s ≤ 2
       let holds : leb (length (frameFor q (addressesOf s))) room ≡ true = le-leb (length (frameFor q (addressesOf s))) room h in
       simp
       (passed s none 5 (lit< tt), passed s none 6 (lit< tt), layout, passed s none 8 (lit< tt), passed s none 9 (lit< tt), passed s none 10 (lit< tt), passed s none 11 (lit< tt), holds)
+
+-- whatever the writer leaves of what was read begins with the same header
+module _ (s before after : List ℕ) (r : Written) (none : first (refusals s) ≡ 0) (two : bandsOf s ≤ 2) (octet : ssLength s ≤ 255) (room : length s ≤ length before) (wrote : Wrote (requestOf s) (addressesOf s) before after r) where
+  fits : length (frameFor (requestOf s) (addressesOf s)) ≤ length before
+  fits = let l = no-longer s none two octet in omega arith
+
+  nothing-refused : first (writerRefusals (requestOf s) (addressesOf s) (length before)) ≡ 0
+  nothing-refused = writes-again s none two octet (length before) fits
+
+  pub accepted-again : r .number ≡ 0
+  unfolding writerRefusals writeOf
+  accepted-again = ap (λ (w : Written). w .number) (wrote .answer ∙ first-accepts {A = Written} (λ n. record { number = n; count = 0 }) _ (writerRefusals (requestOf s) (addressesOf s) (length before)) refl nothing-refused)
+
+  pub header-again : take (headerLength s) after ≡ take (headerLength s) s
+  unfolding writerRefusals frameFor outputOf
+  header-again =
+      let header : List ℕ = headerFor (requestOf s) (addressesOf s) in
+      let frame = wrote .output ∙ first-accepts (λ n. before) _ (writerRefusals (requestOf s) (addressesOf s) (length before)) refl nothing-refused in
+      let same : header ≡ take (headerLength s) s = same-header s none two octet in
+      let long : length header ≡ headerLength s = ap length same ∙ length-take-le (headerLength s) s (header-within s none) in
+      ap (λ (l : List ℕ). take (headerLength s) l) (frame ∙ append-assoc header _ _) ∙ (take-at header _ (headerLength s) long ∙ same)
+
+-- an accepted frame's reading has the request and the addresses of the definitions
+from-accepted : (s before after : List ℕ) (w : Written) → first (refusals s) ≡ 0 → Wrote (readOf s .request) (partAt s (readOf s .start) (readOf s .extent)) before after w → Wrote (requestOf s) (addressesOf s) before after w
+unfolding readOf refusals accepted addressesOf
+from-accepted s before after w none wrote = rw (first-accepts refusedBy (accepted s) (refusals s) refl none) at wrote
+
+-- read, and then written: the contract of both together
+module _ (s before after : List ℕ) (reading : Reading) (octets : List ℕ) (w : Written) where
+  pub written-again : reading ≡ readOf s → octets ≡ partAt s (reading .start) (reading .extent) → ssLength s ≤ 255 → Wrote (reading .request) octets before after w
+      → WrittenAgain s before after (record { written = w; reading = reading })
+  written-again e part octet wrote =
+      record {
+        reading = e;
+        written = whole;
+        number = λ none two room. accepted-again s before after w none two octet room (of-accepted none);
+        header = λ none two room. header-again s before after w none two octet room (of-accepted none);
+      }
+    where
+      whole : Wrote (readOf s .request) (partAt s (readOf s .start) (readOf s .extent)) before after w
+      whole = rw e at (rw part at wrote)
+
+      of-accepted : first (refusals s) ≡ 0 → Wrote (requestOf s) (addressesOf s) before after w
+      of-accepted none = from-accepted s before after w none whole

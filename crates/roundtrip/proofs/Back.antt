@@ -9,22 +9,23 @@ use native.Mathlib.Nat.{eq-zero-or-pos}
 use native.Mathlib.Omega.{arith}
 use borrow.Author.Tests.{leb-true, leb-false, eqb-true, eqb-false, le-leb, eq-eqb, lt-leb, lt-ltb, le-ltb, not-true}
 use lib.Dec.{leb, ltb, eqb, lit<}
-use lib.ListN.{length, getD, take, drop, length-append, List·getD-append}
+use lib.ListN.{length, take, drop, replicate, length-append, length-replicate, List·getD-append}
 use lib.Seq.{getD-append-add, getD-take, take-at, drop-at}
 use Rattle.wire.specs.Octets.{octetAt, sixAt, partAt}
 use Rattle.wire.specs.Refusals.{first, answered}
 use Rattle.wire.specs.ShortFormat.{ethertypeRight, ssType, ssLength, ssVersion, headerLength, nextEthertypeZero}
-use Rattle.wire.proofs.Answered.{first-accepts}
+use Rattle.wire.proofs.Answered.{first-accepts, first-refuses}
 use Rattle.wire.proofs.Joined.{and-left, and-right, and-both}
 use Rattle.wire.proofs.Octets.{octet-behind, six-front, six-behind}
 use Rattle.wire.proofs.Within.{le-within}
 use Rattle.rate.specs.declared.Request.{Request}
-use Rattle.rate.specs.declared.Reading.{Reading}
+use Rattle.rate.specs.declared.Written.{Written}
 use Rattle.rate.specs.Request.{opcodeRight, someBand, bandOneRight, bandTwoRight, ranksRight, groupAddresses}
 use Rattle.rate.specs.Reading.{opcodeOf, bandsOf, countOf, ofBandTwo, startOf, extentOf, addressesOf, requestOf, lengthFits, ssTypeRight, ssLengthFits, ssVersionRight, lengthsAgree, refusals, refusedBy, accepted, readOf}
-use Rattle.rate.specs.Writing.{ssLengthFor, fixedPart, bandPart, headerFor, absentBandEmpty, writerRefusals}
+use Rattle.rate.specs.Writing.{ssLengthFor, fixedPart, bandPart, headerFor, frameFor, absentBandEmpty, writerRefusals, Wrote}
 use Rattle.rate.proofs.Frame.{length-bands, length-header}
-use Rattle.rate.proofs.Writable.{may-write, may-layout}
+use Rattle.rate.proofs.Writable.{may-write, may-layout, Accepted, Refused, wrote-either}
+use Rattle.roundtrip.specs.Trip.{asked}
 
 module _ (q : Request) (a : List ℕ) (room : ℕ) (d6 : length (q .destination) ≡ 6) (s6 : length (q .source) ≡ 6) (none : first (writerRefusals q a room) ≡ 0) (pad : List ℕ) where
   -- the frame that is read: the header that was written, and what follows it
@@ -252,6 +253,47 @@ module _ (q : Request) (a : List ℕ) (room : ℕ) (d6 : length (q .destination)
         )
 
     -- and reads as what was asked
-    pub reads-back : readOf (headerFor q a ++ pad) ≡ record { number = 0; request = q; addresses = length a / 6; start = 20 + 2 * q .bands; extent = length a }
+    pub reads-back : readOf (headerFor q a ++ pad) ≡ asked q a
     unfolding readOf refusals accepted startOf extentOf frame
     reads-back = first-accepts refusedBy (accepted frame) (refusals frame) refl nothing-refused ∙ simp (same-request, bands, count, whole)
+
+-- the frame that the writer makes, its padding of zeros included
+module _ (q : Request) (a : List ℕ) (room : ℕ) (d6 : length (q .destination) ≡ 6) (s6 : length (q .source) ≡ 6) (none : first (writerRefusals q a room) ≡ 0) where
+  abbrev zeros : List ℕ
+  zeros = replicate (60 - length (headerFor q a)) 0
+
+  at-least-60 : 60 ≤ length (headerFor q a ++ zeros)
+  at-least-60 = simp (length-append, length-replicate {A = ℕ}) (omega arith)
+
+  at-most-1514 : length (headerFor q a ++ zeros) ≤ 1514
+  unfolding ssLengthFor
+  at-most-1514 =
+      let l = may-layout q a room none in
+      simp (length-append, length-replicate {A = ℕ}) (omega (arith, l .short, length-header q a d6 s6 (l .two)))
+
+  pub frame-reads-back : readOf (frameFor q a) ≡ asked q a
+  unfolding frameFor
+  frame-reads-back = reads-back q a room d6 s6 none zeros at-least-60 at-most-1514
+
+  pub frame-addresses : addressesOf (frameFor q a) ≡ a
+  unfolding frameFor
+  frame-addresses = same-addresses q a room d6 s6 none zeros
+
+-- what the writer leaves in its output reads back as what was asked, and where it refuses as a frame of no octets
+module _ (q : Request) (a before after : List ℕ) (r : Written) (d6 : length (q .destination) ≡ 6) (s6 : length (q .source) ≡ 6) (wrote : Wrote q a before after r) where
+  pub count-within : r .count ≤ length after
+  count-within =
+      ⊎-elim
+      (λ (d : Accepted q a before after r). rw (d .output, d .answer) (simp length-append (omega arith)))
+      (λ (d : Refused q a before after r). rw (d .answer) (omega arith))
+      (wrote-either q a before after r wrote)
+
+  pub written-reads-back : readOf (take (r .count) after) ≡ answered (λ n. refusedBy 10) (writerRefusals q a (length before)) (asked q a)
+  unfolding writerRefusals readOf refusals lengthFits
+  written-reads-back =
+      ⊎-elim
+      (λ (d : Accepted q a before after r).
+      let frame : take (length (frameFor q a)) after ≡ frameFor q a = rw (d .output) (take-at (frameFor q a) _ (length (frameFor q a)) refl) in
+      rw (d .answer) (ap readOf frame ∙ (frame-reads-back q a (length before) d6 s6 (d .none) ∙ sym (first-accepts (λ n. refusedBy 10) (asked q a) (writerRefusals q a (length before)) refl (d .none)))))
+      (λ (d : Refused q a before after r). rw (d .answer) (sym (first-refuses (λ n. refusedBy 10) (asked q a) (writerRefusals q a (length before)) refl (d .some))))
+      (wrote-either q a before after r wrote)
