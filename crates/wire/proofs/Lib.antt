@@ -9,3 +9,4 @@ pub mod Laid
 pub mod AllBelow
 pub mod Table
 pub mod Parts
+pub mod Settled
