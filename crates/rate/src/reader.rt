@@ -90,7 +90,9 @@ fn request(frame: &[u8]) -> Reading
     let Pair::Ranks(rank1, rank2) = fields::ranks(frame) else {
         return refused(20);
     };
-    let Checked::Right = fields::groups(frame) else {
+    let start = fields::start(bands);
+    let extent = fields::extent(addresses);
+    let Checked::Right = fields::groups(frame, start, extent) else {
         return refused(21);
     };
     let Checked::Right = fields::next_ethertype(frame) else {
@@ -112,8 +114,8 @@ fn request(frame: &[u8]) -> Reading
         number: 0,
         request,
         addresses,
-        start: fields::start(frame),
-        extent: fields::extent(frame),
+        start,
+        extent,
     }
 }
 

@@ -11,12 +11,12 @@ use borrow.Author.Tests.{leb-true, leb-false, eqb-true, eqb-false, le-leb, eq-eq
 use lib.Dec.{leb, eqb, lit<, lit≤}
 use lib.ListN.{length, take, drop, length-drop}
 use lib.Seq.{length-take-le, take-add, drop-drop, take-at}
-use Rattle.wire.specs.Octets.{octetAt, sixAt, partAt}
+use Rattle.wire.specs.Octets.{octetAt, sixFrom, sixAt, partAt}
 use Rattle.wire.specs.Refusals.{first}
 use Rattle.wire.specs.ShortFormat.{ethertypeRight, ssType, ssLength, ssVersion, headerLength, nextEthertypeZero}
 use Rattle.wire.proofs.Answered.{first-accepts}
 use Rattle.wire.proofs.Joined.{and-left, and-right}
-use Rattle.wire.proofs.Octets.{octetsFrom, take-octets}
+use Rattle.wire.proofs.Octets.{octetsFrom, take-octets, six-within, length-six}
 use Rattle.wire.proofs.Within.{le-within}
 use Rattle.rate.specs.declared.Request.{Request}
 use Rattle.rate.specs.declared.Reading.{Reading}
@@ -57,8 +57,10 @@ module _ (s : List ℕ) (none : first (refusals s) ≡ 0) (two : bandsOf s ≤ 2
   same-length = let l = length-part in let e = lengths-agree s none in omega arith
 
   -- the frame's octets, part by part
-  six-octets : (at : ℕ) → at + 6 ≤ 12 → take 6 (drop at s) ≡ octetsFrom 6 at s
-  six-octets at h = take-octets 6 at s (omega (arith, header-within s none))
+  six-octets : (at : ℕ) → at + 6 ≤ 12 → octetsFrom 6 at s ≡ sixFrom s at → take 6 (drop at s) ≡ sixAt s at
+  six-octets at h e =
+      let l : at + 6 ≤ length s = omega (arith, header-within s none) in
+      take-octets 6 at s l ∙ (e ∙ sym (six-within s at l))
 
   fixed-octets : take 8 (drop 12 s) ≡ fixedPart q part
   unfolding fixedPart requestOf refusals ethertypeRight ssTypeRight ssVersionRight
@@ -111,10 +113,10 @@ module _ (s : List ℕ) (none : first (refusals s) ≡ 0) (two : bandsOf s ≤ 2
   joined : 20 + 2 * bandsOf s + 6 * countOf s ≡ 14 + ssLength s
       → take 6 s ++ (take 6 (drop 6 s) ++ (take 8 (drop 12 s) ++ (take (2 * bandsOf s) (drop 20 s) ++ (part ++ take 2 (drop (20 + 2 * bandsOf s + 6 * countOf s) s)))))
       ≡ headerFor q part
-  unfolding headerFor requestOf sixAt
+  unfolding headerFor requestOf
   joined n =
-      simp (n, next-octets, band-octets, fixed-octets, six-octets 6 (lit≤ tt))
-      (ap (λ (l : List ℕ). l ++ (octetsFrom 6 6 s ++ (fixedPart q part ++ (bandPart q ++ (part ++ (0 ∷ 0 ∷ [])))))) (six-octets 0 (lit≤ tt)))
+      simp (n, next-octets, band-octets, fixed-octets, six-octets 6 (lit≤ tt) refl)
+      (ap (λ (l : List ℕ). l ++ (sixAt s 6 ++ (fixedPart q part ++ (bandPart q ++ (part ++ (0 ∷ 0 ∷ [])))))) (six-octets 0 (lit≤ tt) refl))
 
   pub same-header : headerFor (requestOf s) (addressesOf s) ≡ take (headerLength s) s
   same-header =
@@ -140,10 +142,10 @@ module _ (s : List ℕ) (none : first (refusals s) ≡ 0) (two : bandsOf s ≤ 2
 
   -- the frame that is written is at most as long as the one that was read
   pub no-longer : length (frameFor (requestOf s) (addressesOf s)) ≤ length s
-  unfolding refusals lengthFits requestOf sixAt
+  unfolding refusals lengthFits requestOf
   no-longer =
       let least : 60 ≤ length s = leb-true 60 (length s) (and-left (leb 60 (length s)) (leb (length s) 1514) (passed s none 0 (lit< tt))) in
-      rw same-part (omega (arith, length-frame (requestOf s) part refl refl two, length-part, header-within s none, lengths-agree s none))
+      rw same-part (omega (arith, length-frame (requestOf s) part (length-six s 0) (length-six s 6) two, length-part, header-within s none, lengths-agree s none))
 
   pub writes-again : (room : ℕ) → length (frameFor (requestOf s) (addressesOf s)) ≤ room → first (writerRefusals (requestOf s) (addressesOf s) room) ≡ 0
   unfolding writerRefusals refusals requestOf outputHolds

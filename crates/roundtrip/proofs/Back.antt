@@ -24,7 +24,7 @@ use Rattle.rate.specs.Request.{opcodeRight, someBand, bandOneRight, bandTwoRigh
 use Rattle.rate.specs.Reading.{opcodeOf, bandsOf, countOf, ofBandTwo, startOf, extentOf, addressesOf, requestOf, lengthFits, ssTypeRight, ssLengthFits, ssVersionRight, lengthsAgree, refusals, refusedBy, accepted, readOf}
 use Rattle.rate.specs.Writing.{ssLengthFor, fixedPart, bandPart, headerFor, frameFor, absentBandEmpty, writerRefusals, Wrote}
 use Rattle.rate.proofs.Frame.{length-bands, length-header}
-use Rattle.rate.proofs.Writable.{may-write, may-layout, Accepted, Refused, wrote-either}
+use Rattle.rate.proofs.Writable.{may-write, may-layout, some-band, Accepted, Refused, wrote-either}
 use Rattle.roundtrip.specs.Trip.{asked}
 
 module _ (q : Request) (a : List ℕ) (room : ℕ) (d6 : length (q .destination) ≡ 6) (s6 : length (q .source) ≡ 6) (none : first (writerRefusals q a room) ≡ 0) (pad : List ℕ) where
@@ -79,10 +79,7 @@ module _ (q : Request) (a : List ℕ) (room : ℕ) (d6 : length (q .destination)
   count = octet-12 7
 
   some : 1 ≤ q .bands
-  unfolding writerRefusals someBand
-  some =
-      let e : not (eqb (q .bands) 0) ≡ true = may-write q a room none 1 (lit< tt) in
-      ⊎-elim (λ z. absurd (eqb-false (q .bands) 0 (not-true (eqb (q .bands) 0) e) z)) (λ p. p) (eq-zero-or-pos (q .bands))
+  some = some-band q a room none
 
   -- an octet of a band that is there
   octet-20 : (k : ℕ) → k < 2 * q .bands → octetAt frame (20 + k) ≡ octetAt (q .pe1 ∷ q .rank1 ∷ q .pe2 ∷ q .rank2 ∷ []) k
@@ -128,7 +125,7 @@ module _ (q : Request) (a : List ℕ) (room : ℕ) (d6 : length (q .destination)
   unfolding requestOf frame
   same-request =
       let destination : sixAt frame 0 ≡ q .destination = ap (λ (l : List ℕ). sixAt l 0) by-fields ∙ six-front (q .destination) _ d6 in
-      let source : sixAt frame 6 ≡ q .source = ap (λ (l : List ℕ). sixAt l 6) by-fields ∙ (six-behind (q .destination) _ d6 ∙ six-front (q .source) _ s6) in
+      let source : sixAt frame 6 ≡ q .source = ap (λ (l : List ℕ). sixAt l 6) by-fields ∙ six-behind (q .destination) (q .source) _ d6 s6 in
       simp (destination, source, opcode, bands, pe1, rank1, pe2, rank2)
 
   -- the addresses: whole ones, from behind the bands on
@@ -198,9 +195,9 @@ module _ (q : Request) (a : List ℕ) (room : ℕ) (d6 : length (q .destination)
     unfolding writerRefusals
     opcode-right = rw opcode (may-write q a room none 0 (lit< tt))
 
-    some-band : someBand (bandsOf frame) ≡ true
+    some-bands : someBand (bandsOf frame) ≡ true
     unfolding writerRefusals
-    some-band = rw bands (may-write q a room none 1 (lit< tt))
+    some-bands = rw bands (may-write q a room none 1 (lit< tt))
 
     lengths-agree : lengthsAgree frame ≡ true
     unfolding lengthsAgree ssLengthFor
@@ -243,7 +240,7 @@ module _ (q : Request) (a : List ℕ) (room : ℕ) (d6 : length (q .destination)
           ss-length-fits,
           ss-version-right,
           opcode-right,
-          some-band,
+          some-bands,
           lengths-agree,
           band-one-right,
           band-two-right,
