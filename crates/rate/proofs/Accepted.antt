@@ -1,11 +1,21 @@
 -- What an accepted frame has: each test passed, its addresses within it, and the reading put together from its fields.
 -- Assumes nothing.
 use mathlib.Core.Path.{_≡_, refl, sym, _∙_, ap}
-use mathlib.Core.Bool.{Bool, true, false}
+use mathlib.Core.Bool.{true}
 use mathlib.Core.List.{List}
+use mathlib.Core.Logic.{_⊎_, ⊎-elim}
 use Prim.Native.Nat.{ℕ, _+_, _*_, _≤_, _<_}
+use native.Mathlib.Omega.{arith}
+use borrow.Author.Tests.{leb-true, eqb-true}
+use lib.Dec.{leb, lit<}
+use lib.ListN.{length}
 use Rattle.wire.specs.Octets.{octetAt, sixAt}
-use Rattle.rate.specs.Reading.{opcodeOf, bandsOf, countOf, ofBandTwo, startOf, extentOf, requestOf, accepted}
+use Rattle.wire.specs.Refusals.{first}
+use Rattle.wire.specs.ShortFormat.{ssLength, headerLength}
+use Rattle.wire.proofs.First.{test}
+use Rattle.wire.proofs.Answered.{all-pass, decided}
+use Rattle.wire.proofs.Joined.{and-right}
+use Rattle.rate.specs.Reading.{opcodeOf, bandsOf, countOf, ofBandTwo, startOf, extentOf, requestOf, ssLengthFits, lengthsAgree, refusals, refusedBy, accepted, readOf}
 
 module _ (s : List ℕ) {destination source : List ℕ} {opcode bands pe1 rank1 pe2 rank2 addresses start extent : ℕ} where
   pub accepted-fields : destination ≡ sixAt s 0 → source ≡ sixAt s 6 → opcode ≡ opcodeOf s → bands ≡ bandsOf s → pe1 ≡ octetAt s 20 → rank1 ≡ octetAt s 21
@@ -19,3 +29,30 @@ module _ (s : List ℕ) {destination source : List ℕ} {opcode bands pe1 rank1 
       } ≡ accepted s
   unfolding accepted requestOf
   accepted-fields d e o b p r p′ r′ a t x = cc
+
+module _ (s : List ℕ) (none : first (refusals s) ≡ 0) where
+  pub passed : (k : ℕ) → k < length (refusals s) → test (refusals s) k .passes ≡ true
+  unfolding refusals
+  passed k h = all-pass (refusals s) refl none k h
+
+  -- 13 and 17, as numbers
+  pub header-within : headerLength s ≤ length s
+  unfolding refusals ssLengthFits
+  header-within = leb-true (headerLength s) (length s) (and-right (leb 8 (ssLength s)) (leb (headerLength s) (length s)) (passed 3 (lit< tt)))
+
+  pub lengths-agree : ssLength s ≡ 6 + 2 * bandsOf s + 6 * countOf s
+  unfolding refusals lengthsAgree
+  lengths-agree = eqb-true (ssLength s) (6 + 2 * bandsOf s + 6 * countOf s) (passed 7 (lit< tt))
+
+  pub addresses-within : startOf s + extentOf s ≤ length s
+  unfolding startOf extentOf
+  addresses-within = omega (arith, header-within, lengths-agree)
+
+-- the octets that a reading points to lie within the frame, refused or not
+pub reading-within : (s : List ℕ) → readOf s .start + readOf s .extent ≤ length s
+unfolding readOf refusals accepted
+reading-within s =
+    ⊎-elim
+    (λ d. rw (d .1) (addresses-within s (d .0)))
+    (λ d. rw (d .1) (omega arith))
+    (decided refusedBy (accepted s) (refusals s) refl)

@@ -10,7 +10,16 @@ use Rattle.wire.specs.Laying.{over, Lays}
 use Rattle.wire.proofs.Over.{over-start}
 use Rattle.wire.proofs.Laid.{Laid, laid-nothing, laid-more}
 use Rattle.rate.specs.declared.Request.{Request}
-use Rattle.rate.specs.Writing.{fixedPart, bandPart, headerFor, frameFor}
+use Rattle.rate.specs.Writing.{fixedPart, bandPart, headerFor, frameFor, Frames}
+
+-- the octets of one band, and of two
+pub one-band : (q : Request) → q .bands ≡ 1 → bandPart q ≡ q .pe1 ∷ q .rank1 ∷ []
+unfolding bandPart
+one-band q e = ap (λ (n : ℕ). take (2 * n) (q .pe1 ∷ q .rank1 ∷ q .pe2 ∷ q .rank2 ∷ [])) e
+
+pub two-bands : (q : Request) → q .bands ≡ 2 → bandPart q ≡ q .pe1 ∷ q .rank1 ∷ q .pe2 ∷ q .rank2 ∷ []
+unfolding bandPart
+two-bands q e = ap (λ (n : ℕ). take (2 * n) (q .pe1 ∷ q .rank1 ∷ q .pe2 ∷ q .rank2 ∷ [])) e
 
 module _ (q : Request) (a : List ℕ) (d6 : length (q .destination) ≡ 6) (s6 : length (q .source) ≡ 6) (two : q .bands ≤ 2) where
   pub length-bands : length (bandPart q) ≡ 2 * q .bands
@@ -66,7 +75,7 @@ module _ (q : Request) (a : List ℕ) (d6 : length (q .destination) ≡ 6) (s6 :
 
     -- and the zeros: Next Ethertype and the padding
     pub laid-all : {o₅ o₆ : List ℕ} {n₅ n₆ zeros : ℕ} → Laid out o₅ n₅ laidPart → zeros ≡ length (frameFor q a) - n₅ → Lays n₅ (replicate zeros 0) o₅ o₆ n₆
-        → (n₆ ≡ length (frameFor q a)) × (o₆ ≡ frameFor q a ++ drop (length (frameFor q a)) out)
+        → Frames q a out o₆ n₆
     laid-all {n₅ = n₅} {zeros = zeros} l e z =
         let all = length-frame in
         let header = length-header in
@@ -75,4 +84,7 @@ module _ (q : Request) (a : List ℕ) (d6 : length (q .destination) ≡ 6) (s6 :
         let rest : zeros ≡ 2 + (60 - length (headerFor q a)) = omega arith in
         let m = laid-more (replicate zeros 0) l (omega arith) z in
         let frame : laidPart ++ replicate zeros 0 ≡ frameFor q a = laid-frame zeros rest in
-        (m .end ∙ ap length frame, m .done ∙ (ap (λ (x : List ℕ). over out 0 x) frame ∙ over-start out (frameFor q a)))
+        record {
+          count = m .end ∙ ap length frame;
+          output = m .done ∙ (ap (λ (x : List ℕ). over out 0 x) frame ∙ over-start out (frameFor q a));
+        }

@@ -2,3 +2,5 @@ pub mod Accepted
 pub mod Frame
 pub mod Writable
 pub mod Tabled
+pub mod Settled
+pub mod Lowest

@@ -1,4 +1,5 @@
 pub mod Request
 pub mod Reading
+pub mod Receiving
 pub mod Writing
 pub mod Rates

@@ -1,6 +1,6 @@
 -- What writing a rate request gives: the frame, the refusals, and the whole output. Document 01, 'Rate requests, in this order'
 -- (15, 16, 23, 18, 19, 20, 21, 24) and 'The rate request on the wire'.
-use Prim.Native.Nat.{ℕ, _+_, _*_, _-_, _/_, _%_}
+use Prim.Native.Nat.{ℕ, _+_, _*_, _-_, _/_, _%_, _≤_}
 use mathlib.Core.Path.{_≡_}
 use mathlib.Core.Bool.{Bool, _&&_, _||_}
 use mathlib.Core.List.{List, [], _∷_, _++_}
@@ -57,7 +57,26 @@ writerRefusals q a room =
     ∷ (outputHolds q a room else 24)
     ∷ []
 
--- what the writer answers, and what the output then holds: the frame with the octets beyond it as they were, or all as it was
+-- what the tests leave to be laid: one band or two, an SSLength that its octet holds, and room for the frame
+pub record Layable (q : Request) (a out : List ℕ) : Type 0 where
+  pub some : 1 ≤ q .bands
+  pub two : q .bands ≤ 2
+  pub short : 6 + 2 * q .bands + length a ≤ 255
+  pub room : length (frameFor q a) ≤ length out
+
+-- the frame laid over the start of an output, the octets beyond it as they were, and how many octets it has
+pub record Frames (q : Request) (a before after : List ℕ) (n : ℕ) : Type 0 where
+  pub count : n ≡ length (frameFor q a)
+  pub output : after ≡ frameFor q a ++ drop (length (frameFor q a)) before
+
+-- what the writer answers: 0 and how many octets it wrote, or a refusal's number and 0
+unfoldable pub writeOf : Request → List ℕ → ℕ → Written
+writeOf q a room = answered (λ n. record { number = n; count = 0 }) (writerRefusals q a room) (record { number = 0; count = length (frameFor q a) })
+
+-- what the output then holds: the frame, with the octets beyond it as they were; refused, all is as it was
+unfoldable pub outputOf : Request → List ℕ → List ℕ → List ℕ
+outputOf q a before = answered (λ n. before) (writerRefusals q a (length before)) (frameFor q a ++ drop (length (frameFor q a)) before)
+
 pub record Wrote (q : Request) (a before after : List ℕ) (r : Written) : Type 0 where
-  pub answer : r ≡ answered (λ n. record { number = n; count = 0 }) (writerRefusals q a (length before)) (record { number = 0; count = length (frameFor q a) })
-  pub output : after ≡ answered (λ n. before) (writerRefusals q a (length before)) (frameFor q a ++ drop (length (frameFor q a)) before)
+  pub answer : r ≡ writeOf q a (length before)
+  pub output : after ≡ outputOf q a before

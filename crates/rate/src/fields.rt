@@ -9,12 +9,13 @@ use wire::Checked;
 use wire::Field;
 ghost use mathlib.Core.Path.{_≡_};
 ghost use mathlib.Core.List.{[], _∷_};
-ghost use Rattle.wire.specs.Octets.{octetAt};
+ghost use Prim.Native.Nat.{_+_, _*_};
+ghost use Rattle.wire.specs.Octets.{octetAt, partAt};
 ghost use Rattle.wire.specs.Refusals.{_else_};
 ghost use Rattle.wire.specs.Answers.{ruled, fieldSays, checkSays};
 ghost use Rattle.wire.specs.ShortFormat.{ethertypeRight, nextEthertypeZero};
 ghost use Rattle.rate.specs.Request.{opcodeRight, someBand, bandOneRight, bandTwoRight, ranksRight, groupAddresses};
-ghost use Rattle.rate.specs.Reading.{lengthFits, ssTypeRight, ssLengthFits, ssVersionRight, opcodeOf, bandsOf, countOf, lengthsAgree, ofBandTwo, addressesOf, pairSays, startOf, extentOf};
+ghost use Rattle.rate.specs.Reading.{lengthFits, ssTypeRight, ssLengthFits, ssVersionRight, opcodeOf, bandsOf, countOf, lengthsAgree, ofBandTwo, pairSays};
 
 // Both ranks at once, since number 20 speaks of the two.
 pub(crate) enum Pair {
@@ -105,11 +106,11 @@ pub(crate) fn ranks(frame: &[u8]) -> Pair
     }
 }
 
-pub(crate) fn groups(frame: &[u8]) -> Checked
-    ensures { λ r. ⌜ checkSays 21 r ≡ ruled (groupAddresses (addressesOf (now (frame .entry))) else 21) [] ⌝ }
+// The addresses lie where the counts read before say.
+pub(crate) fn groups(frame: &[u8], start: usize, extent: usize) -> Checked
+    ensures { λ r. ⌜ checkSays 21 r ≡ ruled (groupAddresses (partAt (now (frame .entry)) start extent) else 21) [] ⌝ }
 {
-    let octets = wire::part(frame, start(frame), extent(frame));
-    wire::right_if(group_addresses(octets))
+    wire::right_if(group_addresses(wire::part(frame, start, extent)))
 }
 
 pub(crate) fn next_ethertype(frame: &[u8]) -> Checked
@@ -119,17 +120,17 @@ pub(crate) fn next_ethertype(frame: &[u8]) -> Checked
 }
 
 // Where the addresses start: bands past the second are skipped unread.
-pub(crate) fn start(frame: &[u8]) -> usize
-    ensures { λ r. ⌜ r ≡ startOf (now (frame .entry)) ⌝ }
+pub(crate) fn start(bands: u8) -> usize
+    ensures { λ r. ⌜ r ≡ 20 + 2 * bands ⌝ }
 {
-    20 + 2 * wire::octet(frame, 18) as usize
+    20 + 2 * bands as usize
 }
 
 // How many octets hold the addresses.
-pub(crate) fn extent(frame: &[u8]) -> usize
-    ensures { λ r. ⌜ r ≡ extentOf (now (frame .entry)) ⌝ }
+pub(crate) fn extent(addresses: u8) -> usize
+    ensures { λ r. ⌜ r ≡ 6 * addresses ⌝ }
 {
-    6 * wire::octet(frame, 19) as usize
+    6 * addresses as usize
 }
 
 // An octet of band 2, or 0 where there is no band 2.

@@ -11,7 +11,9 @@ pub use rates::Rate;
 pub use rates::chosen_band;
 pub use rates::chosen_rate;
 pub use rates::rate_of;
+pub use reader::Received;
 pub use reader::read;
+pub use reader::receive;
 pub use writer::write;
 
 // A request, as it is read and as it is to be written. Its addresses stand beside it, in the octets that hold them.

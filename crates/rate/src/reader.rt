@@ -6,9 +6,12 @@ use crate::fields::Pair;
 use wire::Checked;
 use wire::Field;
 ghost use mathlib.Core.Path.{_≡_};
+ghost use mathlib.Core.Bool.{cond};
 ghost use lib.ListN.{take, drop};
+ghost use Rattle.wire.specs.Octets.{within, OwnPart};
 ghost use Rattle.wire.specs.Refusals.{first, answered};
 ghost use Rattle.rate.specs.Reading.{refusals, refusedBy, accepted, readOf};
+ghost use Rattle.rate.specs.Receiving.{Receives};
 
 pub fn read(frame: &[u8]) -> Reading
     ensures { λ r. ⌜ r ≡ readOf (now (frame .entry)) ⌝ }
@@ -18,6 +21,29 @@ pub fn read(frame: &[u8]) -> Reading
         return refused(number);
     }
     request(frame)
+}
+
+// What is received: the reading, and the caller's own octets that hold the addresses. Refused, there are none.
+pub struct Received<'a> {
+    pub reading: Reading,
+    pub addresses: &'a [u8],
+}
+
+pub fn receive<'a>(frame: &'a [u8]) -> Received<'a>
+    ensures { λ r. ⌜ Receives (frame .entry) r ⌝ }
+{
+    let reading = read(frame);
+    let addresses = held(frame, reading);
+    Received { reading, addresses }
+}
+
+// The octets of a frame at the place that a reading gives.
+fn held(frame: &[u8], reading: Reading) -> &[u8]
+    ensures { λ r. ⌜ OwnPart (frame .entry) (cond (within (now (frame .entry)) (reading .start) (reading .extent)) (reading .start) 0) (cond (within (now (frame .entry)) (reading .start) (reading .extent)) (reading .extent) 0) r ⌝ }
+{
+    let start = reading.start;
+    let extent = reading.extent;
+    wire::part(frame, start, extent)
 }
 
 // The number of the first refusal among 10 to 14, or 0: whether the frame is a rate request of version 0 at all.
@@ -64,7 +90,9 @@ fn request(frame: &[u8]) -> Reading
     let Pair::Ranks(rank1, rank2) = fields::ranks(frame) else {
         return refused(20);
     };
-    let Checked::Right = fields::groups(frame) else {
+    let start = fields::start(bands);
+    let extent = fields::extent(addresses);
+    let Checked::Right = fields::groups(frame, start, extent) else {
         return refused(21);
     };
     let Checked::Right = fields::next_ethertype(frame) else {
@@ -86,8 +114,8 @@ fn request(frame: &[u8]) -> Reading
         number: 0,
         request,
         addresses,
-        start: fields::start(frame),
-        extent: fields::extent(frame),
+        start,
+        extent,
     }
 }
 

@@ -8,11 +8,11 @@ use crate::rules::opcode_right;
 use crate::rules::ranks_right;
 use crate::rules::some_band;
 ghost use mathlib.Core.Path.{_≡_};
-ghost use mathlib.Core.List.{_++_};
-ghost use Prim.Native.Nat.{_+_, _*_, _-_, _≤_};
-ghost use lib.ListN.{length, drop};
+ghost use Prim.Native.Nat.{_≤_};
+ghost use lib.ListN.{length};
+ghost use Rattle.wire.specs.Laying.{Lays};
 ghost use Rattle.wire.specs.Refusals.{first};
-ghost use Rattle.rate.specs.Writing.{layoutHolds, absentBandEmpty, frameFor, writerRefusals, Wrote};
+ghost use Rattle.rate.specs.Writing.{layoutHolds, absentBandEmpty, bandPart, frameFor, writerRefusals, Layable, Frames, Wrote};
 
 // Writes the request's frame: the longer of the header and 60 octets. Refused, nothing is written.
 pub fn write(out: &mut [u8], request: Request, addresses: &[u8]) -> Written
@@ -94,8 +94,8 @@ fn frame_length(request: Request, addresses: &[u8]) -> usize
 
 // Lays the frame over the start of the output.
 fn put(out: &mut [u8], request: Request, addresses: &[u8]) -> usize
-    requires { ⌜ (request .bands ≤ 2) × (6 + 2 * request .bands + length (now addresses) ≤ 255) × (length (frameFor request (now addresses)) ≤ length (now out)) ⌝ }
-    ensures { λ r. ⌜ (r ≡ length (frameFor request (now (addresses .entry)))) × (now (out .exit) ≡ frameFor request (now (addresses .entry)) ++ drop (length (frameFor request (now (addresses .entry)))) (now (out .entry))) ⌝ }
+    requires { ⌜ Layable request (now addresses) (now out) ⌝ }
+    ensures { λ r. ⌜ Frames request (now (addresses .entry)) (now (out .entry)) (now (out .exit)) r ⌝ }
 {
     let destination = request.destination;
     let source = request.source;
@@ -111,11 +111,23 @@ fn put(out: &mut [u8], request: Request, addresses: &[u8]) -> usize
         request.bands,
         (octets / 6) as u8,
     ];
-    let bands = [request.pe1, request.rank1, request.pe2, request.rank2];
     let mut at = wire::lay(out, 0, &destination);
     at = wire::lay(out, at, &source);
     at = wire::lay(out, at, &fixed);
-    at = wire::lay(out, at, &bands[..pairs]);
+    at = lay_bands(out, at, request);
     at = wire::lay(out, at, addresses);
     wire::clear(out, at, frame_length(request, addresses) - at)
+}
+
+// PE and rank for each band.
+fn lay_bands(out: &mut [u8], at: usize, request: Request) -> usize
+    requires { ⌜ (1 ≤ request .bands) × (request .bands ≤ 2) ⌝ }
+    ensures { λ r. ⌜ Lays at (bandPart request) (now (out .entry)) (now (out .exit)) r ⌝ }
+{
+    if request.bands == 2 {
+        let both = [request.pe1, request.rank1, request.pe2, request.rank2];
+        return wire::lay(out, at, &both);
+    }
+    let one = [request.pe1, request.rank1];
+    wire::lay(out, at, &one)
 }

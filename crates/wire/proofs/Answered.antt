@@ -3,8 +3,9 @@
 use mathlib.Core.Path.{_≡_, refl, _∙_, sym, ap}
 use mathlib.Core.Bool.{Bool, true, false, cond, _&&_}
 use mathlib.Core.List.{List, [], _∷_}
+use mathlib.Core.Logic.{_⊎_, inl, inr, ⊎-elim}
 use Prim.Native.Nat.{ℕ, zero, suc, _<_, _≤_}
-use native.Mathlib.Nat.{le-of-suc-le-suc, not-suc-le-zero}
+use native.Mathlib.Nat.{le-of-suc-le-suc, not-suc-le-zero, eq-zero-or-pos}
 use native.Mathlib.Omega.{arith}
 use borrow.Author.Tests.{leb-true}
 use lib.Dec.{leb}
@@ -68,3 +69,11 @@ module _ {A : Type 0} (refuse : ℕ → A) (good : A) where
       by-test : (p : Bool) → n ≡ cond p (first l) (r .number) → (n ≡ first l → answered refuse l good ≡ refuse n) → cond p (answered refuse l good) (refuse (r .number)) ≡ refuse n
       by-test true e rest = rest e
       by-test false e rest = ap refuse (sym e)
+
+  -- one of the two: nothing is refused, or the first number that applies
+  pub decided : (l : List Refusal) → numbered l ≡ true → ((first l ≡ 0) × (answered refuse l good ≡ good)) ⊎ ((first l ≡ 0 → ⊥) × (answered refuse l good ≡ refuse (first l)))
+  decided l z =
+      ⊎-elim
+      (λ (e : first l ≡ 0). inl (e, first-accepts l z e))
+      (λ (h : 0 < first l). let n : first l ≡ 0 → ⊥ = λ e. omega arith in inr (n, first-refuses l refl n))
+      (eq-zero-or-pos (first l))

@@ -11,18 +11,19 @@ use denote.Ref.{RefT, now}
 abbrev pub octetAt : List ℕ → ℕ → ℕ
 octetAt s at = getD s at 0
 
--- an address: the six octets from a place on
-unfoldable pub sixAt : List ℕ → ℕ → List ℕ
-sixAt s at =
-    octetAt s at ∷ octetAt s (at + 1) ∷ octetAt s (at + 2) ∷ octetAt s (at + 3) ∷ octetAt s (at + 4)
-    ∷ octetAt s (at + 5)
-    ∷ []
-
 -- a part of so many octets from a place on lies within the list
 unfoldable pub within : List ℕ → ℕ → ℕ → Bool
 within s start count = leb (start + count) (length s)
 
--- that part, or nothing where it does not lie within the list
+-- the six octets from a place on
+abbrev pub sixFrom : List ℕ → ℕ → List ℕ
+sixFrom s at = octetAt s at ∷ octetAt s (at + 1) ∷ octetAt s (at + 2) ∷ octetAt s (at + 3) ∷ octetAt s (at + 4) ∷ octetAt s (at + 5) ∷ []
+
+-- an address: those octets, or zeros where they do not lie within the list
+unfoldable pub sixAt : List ℕ → ℕ → List ℕ
+sixAt s at = cond (within s at 6) (sixFrom s at) (0 ∷ 0 ∷ 0 ∷ 0 ∷ 0 ∷ 0 ∷ [])
+
+-- a part of the list, or nothing where it does not lie within
 unfoldable pub partAt : List ℕ → ℕ → ℕ → List ℕ
 partAt s start count = cond (within s start count) (take count (drop start s)) []
 

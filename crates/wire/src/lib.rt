@@ -14,32 +14,16 @@ pub use short::ethertype_right;
 pub use short::next_ethertype_zero;
 ghost use mathlib.Core.Path.{_≡_};
 ghost use mathlib.Core.Bool.{cond, _&&_};
-ghost use Prim.Native.Nat.{_+_};
+ghost use Prim.Native.Nat.{_+_, _≤_};
+ghost use lib.ListN.{length};
 ghost use lib.Dec.{leb};
-ghost use Rattle.wire.specs.Octets.{octetAt, sixAt, within, OwnPart};
+ghost use Rattle.wire.specs.Octets.{octetAt, sixFrom, sixAt, within, OwnPart};
 
 // The octet at a place, or 0 past the end.
 pub fn octet(s: &[u8], at: usize) -> u8
     ensures { λ r. ⌜ r ≡ octetAt (now (s .entry)) at ⌝ }
 {
     if at < s.len() { s[at] } else { 0 }
-}
-
-// The six octets from a place on: an address.
-pub fn six(s: &[u8], at: usize) -> [u8; 6]
-    ensures { λ r. ⌜ r ≡ sixAt (now (s .entry)) at ⌝ }
-{
-    if s.len() <= at {
-        return [0; 6];
-    }
-    [
-        octet(s, at),
-        octet(s, at + 1),
-        octet(s, at + 2),
-        octet(s, at + 3),
-        octet(s, at + 4),
-        octet(s, at + 5),
-    ]
 }
 
 // Whether a number lies between two others, both of them included.
@@ -58,6 +42,23 @@ pub fn lies_within(length: usize, start: usize, count: usize) -> bool
     } else {
         count <= length - start
     }
+}
+
+// The six octets from a place on: an address. Where they do not all lie within the slice, zeros.
+pub fn six(s: &[u8], at: usize) -> [u8; 6]
+    ensures { λ r. ⌜ r ≡ sixAt (now (s .entry)) at ⌝ }
+{
+    if lies_within(s.len(), at, 6) {
+        return six_there(s, at);
+    }
+    [0; 6]
+}
+
+fn six_there(s: &[u8], at: usize) -> [u8; 6]
+    requires { ⌜ at + 6 ≤ length (now s) ⌝ }
+    ensures { λ r. ⌜ r ≡ sixFrom (now (s .entry)) at ⌝ }
+{
+    [s[at], s[at + 1], s[at + 2], s[at + 3], s[at + 4], s[at + 5]]
 }
 
 // The caller's own octets from a place on, or none of them where they do not lie within the slice.

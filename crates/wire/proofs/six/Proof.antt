@@ -1,64 +1,34 @@
--- `wire::six` meets its contract: octet by octet, and all zeros where the first already lies past the end.
-use Rattle.wire.specs.Octets.{sixAt}
-use Rattle.wire.proofs.Octets.{six-past-end}
+-- `wire::six` meets its contract: `lies_within` tells whether the six octets are there.
+use Prim.Native.Nat.{_+_, _≤_}
+use mathlib.Core.Path.{_≡_, sym, _∙_}
+use mathlib.Core.Bool.{true, false}
 use borrow.Author.Needs.{needs}
+use borrow.Author.Tests.{leb-true}
+use denote.Ref.{now}
+use lib.ListN.{length}
+use Rattle.wire.specs.Octets.{within, sixAt}
+use Rattle.wire.proofs.Octets.{six-within}
 use Rattle.wire.proofs.six.Statement.{statement}
 use Rattle.wire.proofs.six.Tie as tie
 
+lies-within-requires : tie.Need-lies-within-requires
+lies-within-requires c κs = search needs
+
+there : (c : tie.Then1) → c .before .before .before .args .at + 6 ≤ length (now (c .before .before .before .args .s))
+there c = leb-true _ _ (sym (c .before .lies-within .ensures) ∙ c .if1 .taken)
+
+six-there-requires : tie.Need-six-there-requires
+six-there-requires c κs = there c
+
 returns : tie.Need-returns
-returns c = six-past-end _ _ (c .if1 .taken)
-
-octet-requires : tie.Need-octet-requires
-octet-requires c κs = search needs
-
-add-octet : tie.Need-add-octet
-add-octet c = search needs
-
-octet-requires-2 : tie.Need-octet-requires-2
-octet-requires-2 c κs = search needs
-
-add-octet-2 : tie.Need-add-octet-2
-add-octet-2 c = search needs
-
-octet-requires-3 : tie.Need-octet-requires-3
-octet-requires-3 c κs = search needs
-
-add-octet-3 : tie.Need-add-octet-3
-add-octet-3 c = search needs
-
-octet-requires-4 : tie.Need-octet-requires-4
-octet-requires-4 c κs = search needs
-
-add-octet-4 : tie.Need-add-octet-4
-add-octet-4 c = search needs
-
-octet-requires-5 : tie.Need-octet-requires-5
-octet-requires-5 c κs = search needs
-
-add-octet-5 : tie.Need-add-octet-5
-add-octet-5 c = search needs
-
-octet-requires-6 : tie.Need-octet-requires-6
-octet-requires-6 c κs = search needs
+returns c = c .six-there .ensures ∙ sym (six-within _ _ (there (c .before)))
 
 returns-2 : tie.Need-returns-2
-unfolding sixAt
-returns-2 c = cc
+unfolding sixAt within
+returns-2 c =
+    let a = c .before .before .before .args in
+    let w : within (now (a .s)) (a .at) 6 ≡ false = sym (c .before .lies-within .ensures) ∙ c .if1 .left in
+    simp w
 
 pub six-spec : {M : Type 1} → statement M
-six-spec =
-    tie.close
-    (tie.spec
-    returns
-    octet-requires
-    add-octet
-    octet-requires-2
-    add-octet-2
-    octet-requires-3
-    add-octet-3
-    octet-requires-4
-    add-octet-4
-    octet-requires-5
-    add-octet-5
-    octet-requires-6
-    returns-2)
+six-spec = tie.close (tie.spec lies-within-requires six-there-requires returns returns-2)

@@ -2,19 +2,20 @@
 -- an answer that is Wrong gives the refusal of its own row.
 use mathlib.Core.Path.{_≡_, refl, sym, _∙_, ap}
 use mathlib.Core.Bool.{true}
-use mathlib.Core.List.{List}
-use Prim.Native.Nat.{ℕ}
+use mathlib.Core.List.{List, [], _∷_}
+use Prim.Native.Nat.{ℕ, _+_, _*_}
 use denote.Ref.{now}
 use lib.Dec.{lit<}
 use lib.ListN.{drop}
 use borrow.Author.Needs.{needs}
-use Rattle.wire.specs.Octets.{octetAt}
-use Rattle.wire.specs.Refusals.{Refusal}
+use Rattle.wire.specs.Octets.{octetAt, partAt}
+use Rattle.wire.specs.Refusals.{Refusal, _else_}
+use Rattle.wire.specs.Answers.{ruled, checkSays}
 use Rattle.wire.specs.ShortFormat.{nextEthertypeZero}
 use Rattle.wire.proofs.Answered as answers
 use Rattle.wire.proofs.Ruled.{check-passes, check-fails, field-passes, field-fails, two-pass, two-fail}
 use Rattle.rate.specs.Request.{opcodeRight, someBand, bandOneRight, bandTwoRight, ranksRight, groupAddresses}
-use Rattle.rate.specs.Reading.{opcodeOf, bandsOf, countOf, ofBandTwo, addressesOf, requestOf, lengthsAgree, refusals, refusedBy, accepted, pairSays}
+use Rattle.rate.specs.Reading.{opcodeOf, bandsOf, countOf, ofBandTwo, startOf, extentOf, addressesOf, requestOf, lengthsAgree, refusals, refusedBy, accepted, pairSays}
 use Rattle.rate.proofs.Accepted.{accepted-fields}
 use Rattle.rate.proofs.reader.request.Statement.{statement}
 use Rattle.rate.proofs.reader.request.Tie as tie
@@ -88,12 +89,33 @@ past-ranks : (c : tie.After-known-told6) → Past (frame-ranks c) 6
 unfolding refusals
 past-ranks c = answers.passes refusedBy (accepted (frame-ranks c)) (rows (frame-ranks c)) 5 (lit< tt) (past-band-two (c .before .before .before .before)) (read-ranks c .0)
 
+-- the place and the extent of the addresses, from the counts that were read
+start-is : (c : tie.After-extent) → c .before .start .result ≡ startOf (frame-ranks (c .before .before))
+unfolding startOf
+start-is c =
+    let bands = c .before .before .before .before .before .before .before .before .before .before .before .before .before .before .before .before .before .before in
+    c .before .start .ensures ∙ ap (λ (n : ℕ). 20 + 2 * n) (read-bands bands .1)
+
+extent-is : (c : tie.After-extent) → c .extent .result ≡ extentOf (frame-ranks (c .before .before))
+unfolding extentOf
+extent-is c =
+    let addresses = c .before .before .before .before .before .before .before .before .before .before .before .before .before .before in
+    c .extent .ensures ∙ ap (λ (n : ℕ). 6 * n) (read-addresses addresses .1)
+
+group-said : (c : tie.After-groups) → checkSays 21 (c .groups .result) ≡ ruled (groupAddresses (addressesOf (frame-ranks (c .before .before .before))) else 21) []
+unfolding addressesOf
+group-said c =
+    let s = frame-ranks (c .before .before .before) in
+    c .groups .ensures
+    ∙ (ap (λ (n : ℕ). ruled (groupAddresses (partAt s n (c .before .extent .result)) else 21) []) (start-is (c .before))
+    ∙ ap (λ (n : ℕ). ruled (groupAddresses (partAt s (startOf s) n) else 21) []) (extent-is (c .before)))
+
 abbrev frame-groups : tie.After-enum-told7 → List ℕ
-frame-groups c = frame-ranks (c .before .before .before)
+frame-groups c = frame-ranks (c .before .before .before .before .before)
 
 past-groups : (c : tie.After-enum-told7) → Past (frame-groups c) 7
 unfolding refusals
-past-groups c = answers.passes refusedBy (accepted (frame-groups c)) (rows (frame-groups c)) 6 (lit< tt) (past-ranks (c .before .before .before)) (check-passes 21 tt (groupAddresses (addressesOf (frame-groups c))) (c .before .before .groups .ensures) (c .enum-told7 .given .1))
+past-groups c = answers.passes refusedBy (accepted (frame-groups c)) (rows (frame-groups c)) 6 (lit< tt) (past-ranks (c .before .before .before .before .before)) (check-passes 21 tt (groupAddresses (addressesOf (frame-groups c))) (group-said (c .before .before)) (c .enum-told7 .given .1))
 
 abbrev frame-next-ethertype : tie.After-enum-told9 → List ℕ
 frame-next-ethertype c = frame-groups (c .before .before .before)
@@ -210,6 +232,12 @@ returns-6 c =
     let s = frame-band-two (c .before .before .before .before) in
     c .refused6 .ensures ∙ sym (answers.fails refusedBy (accepted s) (rows s) 5 (lit< tt) (past-band-two (c .before .before .before .before)) (two-fail 20 tt (ranksRight (bandsOf s) (octetAt s 21) (ofBandTwo s 23)) (octetAt s 21) (ofBandTwo s 23) (c .before .before .before .ranks .ensures) (ap (pairSays 20) (c .before .enum-told6 .given .1))))
 
+start-requires : tie.Need-start-requires
+start-requires c κs = search needs
+
+extent-requires : tie.Need-extent-requires
+extent-requires c κs = search needs
+
 groups-requires : tie.Need-groups-requires
 groups-requires c κs = search needs
 
@@ -225,8 +253,8 @@ refused-requires-7 c κs = search needs
 returns-7 : tie.Need-returns-7
 unfolding refusals
 returns-7 c =
-    let s = frame-ranks (c .before .before .before .before) in
-    c .refused7 .ensures ∙ sym (answers.fails refusedBy (accepted s) (rows s) 6 (lit< tt) (past-ranks (c .before .before .before .before)) (check-fails 21 tt (groupAddresses (addressesOf s)) (c .before .before .before .groups .ensures) (c .before .enum-told8 .given .1)))
+    let s = frame-ranks (c .before .before .before .before .before .before) in
+    c .refused7 .ensures ∙ sym (answers.fails refusedBy (accepted s) (rows s) 6 (lit< tt) (past-ranks (c .before .before .before .before .before .before)) (check-fails 21 tt (groupAddresses (addressesOf s)) (group-said (c .before .before .before)) (c .before .enum-told8 .given .1)))
 
 next-ethertype-requires : tie.Need-next-ethertype-requires
 next-ethertype-requires c κs = search needs
@@ -252,24 +280,19 @@ six-requires c κs = search needs
 six-requires-2 : tie.Need-six-requires-2
 six-requires-2 c κs = search needs
 
-start-requires : tie.Need-start-requires
-start-requires c κs = search needs
-
-extent-requires : tie.Need-extent-requires
-extent-requires c κs = search needs
-
 returns-9 : tie.Need-returns-9
 unfolding refusals
 returns-9 c =
-    let all = c .before .before .before .before in
-    let ranks = all .before .before .before .before .before .before in
+    let all = c .before .before in
+    let placed = all .before .before .before .before .before .before in
+    let ranks = placed .before .before in
     let two = ranks .before .before .before .before in
     let one = two .before .before .before .before in
     let addresses = one .before .before .before .before in
     let bands = addresses .before .before .before .before in
     let opcode = bands .before .before .before .before in
-    accepted-fields (frame-next-ethertype all) (c .before .before .before .six .ensures) (c .before .before .six2 .ensures) (read-opcode opcode .1) (read-bands bands .1)
-    (read-band-one one .1) (read-ranks ranks .1 .0) (read-band-two two .1) (read-ranks ranks .1 .1) (read-addresses addresses .1) (c .before .start .ensures) (c .extent .ensures)
+    accepted-fields (frame-next-ethertype all) (c .before .six .ensures) (c .six2 .ensures) (read-opcode opcode .1) (read-bands bands .1)
+    (read-band-one one .1) (read-ranks ranks .1 .0) (read-band-two two .1) (read-ranks ranks .1 .1) (read-addresses addresses .1) (start-is placed) (extent-is placed)
     ∙ sym (past-next-ethertype all)
 
 pub request-spec : {M : Type 1} → statement M
@@ -306,6 +329,8 @@ request-spec =
     enum-told-6
     refused-requires-6
     returns-6
+    start-requires
+    extent-requires
     groups-requires
     enum-told-7
     enum-told-8
@@ -318,6 +343,4 @@ request-spec =
     returns-8
     six-requires
     six-requires-2
-    start-requires
-    extent-requires
     returns-9)

@@ -6,14 +6,14 @@ use native.Mathlib.Omega.{arith}
 use denote.Ref.{now}
 use lib.ListN.{length}
 use Rattle.wire.proofs.Laid.{Laid}
-use Rattle.rate.specs.Writing.{ssLengthFor, fixedPart, bandPart, frameFor}
-use Rattle.rate.proofs.Frame.{length-bands, length-frame, laidPart, length-laid, laid-header, laid-all}
+use Rattle.rate.specs.Writing.{ssLengthFor, fixedPart, frameFor}
+use Rattle.rate.proofs.Frame.{length-frame, laidPart, length-laid, laid-header, laid-all}
 use borrow.Author.Needs.{needs}
 use Rattle.rate.proofs.writer.put.Statement.{statement}
 use Rattle.rate.proofs.writer.put.Tie as tie
 
-abbrev start : tie.After-lay5 → tie.Start
-start c = c .before .before .before .before .before .before .before .before .before .before .before .before .before .before .before .before .before .before .before .before .before .before .before .before .before .before .before
+abbrev start : tie.After-lay4 → tie.Start
+start c = c .before .before .before .before .before .before .before .before .before .before .before .before .before .before .before .before .before .before .before .before .before .before .before .before .before .before
 
 six-destination : (c : tie.Start) → length (c .args .request .destination) ≡ 6
 six-destination c = search needs
@@ -22,16 +22,16 @@ six-source : (c : tie.Start) → length (c .args .request .source) ≡ 6
 six-source c = search needs
 
 -- the header up to Next Ethertype is laid
-laid : (c : tie.After-lay5) → Laid (now (start c .args .out)) (c .lay5 .last .0) (c .lay5 .result) (laidPart (start c .args .request) (now (start c .args .addresses)) (six-destination (start c)) (six-source (start c)) (start c .pre .0))
-unfolding fixedPart ssLengthFor bandPart
+laid : (c : tie.After-lay4) → Laid (now (start c .args .out)) (c .lay4 .last .0) (c .lay4 .result) (laidPart (start c .args .request) (now (start c .args .addresses)) (six-destination (start c)) (six-source (start c)) (start c .pre .two))
+unfolding fixedPart ssLengthFor
 laid c =
     let st = start c in
-    laid-header (st .args .request) (now (st .args .addresses)) (six-destination st) (six-source st) (st .pre .0) (now (st .args .out)) (st .pre .2)
-    (c .before .before .before .before .before .before .before .before .before .before .before .before .before .before .before .before .before .before .before .lay .ensures)
-    (c .before .before .before .before .before .before .before .before .before .before .before .before .before .before .lay2 .ensures)
-    (c .before .before .before .before .before .before .before .before .before .lay3 .ensures)
-    (c .before .before .before .before .lay4 .ensures)
-    (c .lay5 .ensures)
+    laid-header (st .args .request) (now (st .args .addresses)) (six-destination st) (six-source st) (st .pre .two) (now (st .args .out)) (st .pre .room)
+    (c .before .before .before .before .before .before .before .before .before .before .before .before .before .before .before .before .before .before .lay .ensures)
+    (c .before .before .before .before .before .before .before .before .before .before .before .before .before .lay2 .ensures)
+    (c .before .before .before .before .before .before .before .before .lay3 .ensures)
+    (c .before .before .before .before .lay-bands .ensures)
+    (c .lay4 .ensures)
 
 cast-pairs : tie.Need-cast-pairs
 cast-pairs c = search needs
@@ -39,17 +39,17 @@ cast-pairs c = search needs
 mul-pairs : tie.Need-mul-pairs
 mul-pairs c = search needs
 
+add-t10 : tie.Need-add-t10
+add-t10 c = search needs
+
 add-t11 : tie.Need-add-t11
 add-t11 c = search needs
 
-add-t12 : tie.Need-add-t12
-add-t12 c = search needs
+cast-t12 : tie.Need-cast-t12
+cast-t12 c = search needs
 
-cast-t13 : tie.Need-cast-t13
-cast-t13 c = search needs
-
-cast-t15 : tie.Need-cast-t15
-cast-t15 c = search needs
+cast-t14 : tie.Need-cast-t14
+cast-t14 c = search needs
 
 slice-aggregate-lay : tie.Need-slice-aggregate-lay
 slice-aggregate-lay c = search needs
@@ -69,18 +69,11 @@ slice-aggregate-lay-3 c = search needs
 lay-requires-3 : tie.Need-lay-requires-3
 lay-requires-3 c κs = search needs
 
-array-share-prefix-bands : tie.Need-array-share-prefix-bands
-array-share-prefix-bands c = search needs
-
-slice-aggregate-lay-4 : tie.Need-slice-aggregate-lay-4
-unfolding bandPart
-slice-aggregate-lay-4 c = let st = c .before .before .before .before .before .before .before .before .before .before .before .before .before .before .before .before .before .before .before .before .before .before in sym (length-bands (st .args .request) (now (st .args .addresses)) (six-destination st) (six-source st) (st .pre .0))
+lay-bands-requires : tie.Need-lay-bands-requires
+lay-bands-requires c κs = search needs
 
 lay-requires-4 : tie.Need-lay-requires-4
 lay-requires-4 c κs = search needs
-
-lay-requires-5 : tie.Need-lay-requires-5
-lay-requires-5 c κs = search needs
 
 frame-length-requires : tie.Need-frame-length-requires
 frame-length-requires c κs = search needs
@@ -89,7 +82,9 @@ sub-clear : tie.Need-sub-clear
 sub-clear c =
     let header = c .before .before .before .before in
     let st = start header in
-    omega (arith, laid header .end, length-laid (st .args .request) (now (st .args .addresses)) (six-destination st) (six-source st) (st .pre .0), c .frame-length .ensures, length-frame (st .args .request) (now (st .args .addresses)) (six-destination st) (six-source st) (st .pre .0))
+    let all = length-frame (st .args .request) (now (st .args .addresses)) (six-destination st) (six-source st) (st .pre .two) in
+    let end = length-laid (st .args .request) (now (st .args .addresses)) (six-destination st) (six-source st) (st .pre .two) in
+    omega (arith, laid header .end, c .frame-length .ensures)
 
 clear-requires : tie.Need-clear-requires
 clear-requires c κs = search needs
@@ -101,8 +96,8 @@ returns : tie.Need-returns
 returns c =
     let header = c .before .before .before .before .before .before .before in
     let st = start header in
-    laid-all (st .args .request) (now (st .args .addresses)) (six-destination st) (six-source st) (st .pre .0) (now (st .args .out)) (st .pre .2) (laid header)
-    (ap (λ (n : ℕ). n - header .lay5 .result) (c .before .before .before .frame-length .ensures)) (c .before .before .clear .ensures)
+    laid-all (st .args .request) (now (st .args .addresses)) (six-destination st) (six-source st) (st .pre .two) (now (st .args .out)) (st .pre .room) (laid header)
+    (ap (λ (n : ℕ). n - header .lay4 .result) (c .before .before .before .frame-length .ensures)) (c .before .before .clear .ensures)
 
 pub put-spec : {M : Type 1} → statement M
 put-spec =
@@ -110,20 +105,18 @@ put-spec =
     (tie.spec
     cast-pairs
     mul-pairs
+    add-t10
     add-t11
-    add-t12
-    cast-t13
-    cast-t15
+    cast-t12
+    cast-t14
     slice-aggregate-lay
     lay-requires
     slice-aggregate-lay-2
     lay-requires-2
     slice-aggregate-lay-3
     lay-requires-3
-    array-share-prefix-bands
-    slice-aggregate-lay-4
+    lay-bands-requires
     lay-requires-4
-    lay-requires-5
     frame-length-requires
     sub-clear
     clear-requires

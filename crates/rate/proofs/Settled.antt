@@ -1,0 +1,54 @@
+-- Any two outcomes that a contract of this crate allows are equal; of octets handed back, as wire's Settled.antt says it.
+-- Assumes nothing.
+use mathlib.Core.Path.{_≡_, refl, sym, _∙_, ap}
+use mathlib.Core.List.{List}
+use mathlib.Core.Option.{Option, none, some}
+use Prim.Native.Nat.{ℕ}
+use denote.Ref.{RefT, now}
+use Rattle.wire.proofs.Settled.{value-settled, SamePart, part-settled}
+use Rattle.rate.specs.declared.Request.{Request}
+use Rattle.rate.specs.declared.Reading.{Reading}
+use Rattle.rate.specs.declared.Written.{Written}
+use Rattle.rate.specs.declared.reader.Received.{Received}
+use Rattle.rate.specs.declared.rates.Rate.{Rate}
+use Rattle.rate.specs.declared.rates.Rate.the-variants as rate
+use Rattle.rate.specs.declared.rates.Chosen.{Chosen}
+use Rattle.rate.specs.declared.rates.Chosen.the-variants as chosen
+use Rattle.rate.specs.Reading.{readOf}
+use Rattle.rate.specs.Receiving.{Receives}
+use Rattle.rate.specs.Writing.{Wrote}
+use Rattle.rate.specs.Rates.{rateOf, mbitOf, chosenOf, bandOf, rateOfBand}
+
+pub read-settled : (s : List ℕ) {r t : Reading} → r ≡ readOf s → t ≡ readOf s → r ≡ t
+read-settled s p q = value-settled (readOf s) p q
+
+pub record SameReceived (r t : Received) : Type 0 where
+  pub reading : r .reading ≡ t .reading
+  pub addresses : SamePart (r .addresses) (t .addresses)
+
+pub receive-settled : (frame : RefT (List ℕ)) {r t : Received} → Receives frame r → Receives frame t → SameReceived r t
+receive-settled frame p q = record { reading = p .reading ∙ sym (q .reading); addresses = part-settled frame _ _ (p .addresses) (q .addresses) }
+
+pub write-settled : (q : Request) (a before : List ℕ) {after after′ : List ℕ} {r t : Written} → Wrote q a before after r → Wrote q a before after′ t → (r ≡ t) × (after ≡ after′)
+write-settled q a before v w = (v .answer ∙ sym (w .answer), v .output ∙ sym (w .output))
+
+same-rate : (r t : Rate) → mbitOf r ≡ mbitOf t → r ≡ t
+same-rate (rate.Mbit m) (rate.Mbit n) e = cc
+same-rate (rate.Mbit m) rate.None e = cc
+same-rate rate.None (rate.Mbit n) e = cc
+same-rate rate.None rate.None e = refl
+
+pub rate-settled : (pe : ℕ) (r t : Rate) → mbitOf r ≡ rateOf pe → mbitOf t ≡ rateOf pe → r ≡ t
+rate-settled pe r t p q = same-rate r t (p ∙ sym q)
+
+pub chosen-rate-settled : (q : Request) (r t : Rate) → mbitOf r ≡ rateOfBand q (chosenOf q) → mbitOf t ≡ rateOfBand q (chosenOf q) → r ≡ t
+chosen-rate-settled q r t v w = same-rate r t (v ∙ sym w)
+
+same-band : (r t : Chosen) → bandOf r ≡ bandOf t → r ≡ t
+same-band (chosen.Band m) (chosen.Band n) e = cc
+same-band (chosen.Band m) chosen.None e = cc
+same-band chosen.None (chosen.Band n) e = cc
+same-band chosen.None chosen.None e = refl
+
+pub chosen-band-settled : (q : Request) (r t : Chosen) → bandOf r ≡ chosenOf q → bandOf t ≡ chosenOf q → r ≡ t
+chosen-band-settled q r t v w = same-band r t (v ∙ sym w)

@@ -1,0 +1,4 @@
+pub mod Back
+pub mod Again
+pub mod Runs
+pub mod Settled
