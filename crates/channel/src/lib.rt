@@ -24,6 +24,7 @@ use crate::judge::Judged;
 use crate::judge::Spot;
 use crate::judge::judge;
 use crate::record::Record;
+pub use judge::is_sound;
 use ring::Seq;
 use ring::Side;
 

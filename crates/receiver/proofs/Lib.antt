@@ -1,0 +1,8 @@
+pub mod Ruled
+pub mod Keyed
+pub mod Promised
+pub mod Known
+pub mod Opening
+pub mod Events
+pub mod Unique
+pub mod Running

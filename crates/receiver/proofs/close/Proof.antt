@@ -1,0 +1,170 @@
+-- `close` meets its contract: by the way that `way_of` gives it refuses, or lends the parts of the channel's place to the call on one place
+-- and clears the key of the place where that call freed it.
+use mathlib.Core.Path.{refl}
+use native.Mathlib.Omega.{arith}
+use borrow.Author.Needs.{needs}
+use denote.Ref.{now}
+use Rattle.larq.specs.Events.{close}
+use Rattle.channel.specs.Call.{parts, buffers}
+use Rattle.receiver.proofs.Events.{Told, Goes, goes, closed-did, turned-did}
+use Rattle.receiver.proofs.close.Statement.{statement}
+use Rattle.receiver.proofs.close.Tie as tie
+
+way-of-requires : tie.Need-way-of-requires
+way-of-requires c κs = search needs
+
+enum-known-way : tie.Need-enum-known-way
+enum-known-way c = search needs
+
+abbrev told : tie.Start → Told
+told c =
+    let a = c .args in
+    record {
+      keys = now (a .keys);
+      words = now (a .words);
+      handles = now (a .handles);
+      marks = now (a .marks);
+      up = now (a .up);
+      returned = now (a .returned);
+      nack = now (a .nack);
+      destination = now (a .destination);
+      source = now (a .source);
+      priority = a .priority;
+      time = a .time;
+    }
+
+going : (c : tie.After-known-told) → Goes (told (c .before .before .before .before .before .before .before .before .before .before .before .before)) (c .before .way .given .0 .0)
+going c = goes (told (c .before .before .before .before .before .before .before .before .before .before .before .before)) close 0 refl _ _ (c .before .before .before .way-of .ensures) (c .before .way .given .1)
+
+mul-from : tie.Need-mul-from
+mul-from c = omega (arith, going c)
+
+mul-slot : tie.Need-mul-slot
+mul-slot c = omega (arith, going c)
+
+add-close : tie.Need-add-close
+add-close c = omega (arith, going c)
+
+mul-close : tie.Need-mul-close
+mul-close c = omega (arith, going c)
+
+sub-close : tie.Need-sub-close
+sub-close c = search needs
+
+part-close-start : tie.Need-part-close-start
+part-close-start c = search needs
+
+part-close-end : tie.Need-part-close-end
+part-close-end c = omega (arith, going c)
+
+add-close-2 : tie.Need-add-close-2
+add-close-2 c = omega (arith, going (c .before))
+
+mul-close-2 : tie.Need-mul-close-2
+mul-close-2 c = omega (arith, going (c .before))
+
+sub-close-2 : tie.Need-sub-close-2
+sub-close-2 c = search needs
+
+part-close-start-2 : tie.Need-part-close-start-2
+part-close-start-2 c = search needs
+
+part-close-end-2 : tie.Need-part-close-end-2
+part-close-end-2 c = omega (arith, going (c .before))
+
+add-close-3 : tie.Need-add-close-3
+add-close-3 c = omega (arith, going (c .before .before))
+
+sub-close-3 : tie.Need-sub-close-3
+sub-close-3 c = search needs
+
+part-close-start-3 : tie.Need-part-close-start-3
+part-close-start-3 c = search needs
+
+part-close-end-3 : tie.Need-part-close-end-3
+part-close-end-3 c = omega (arith, going (c .before .before))
+
+close-requires : tie.Need-close-requires
+close-requires c κs = search needs
+
+free-key-requires : tie.Need-free-key-requires
+free-key-requires c κs = (going (c .before .before .before .before .before .before .before .before .before .before .before .before .before .before .before .before .before .before .before .before) .keys-sized, going (c .before .before .before .before .before .before .before .before .before .before .before .before .before .before .before .before .before .before .before .before) .here)
+
+enum-known-way-2 : tie.Need-enum-known-way-2
+enum-known-way-2 c = search needs
+
+refused-requires : tie.Need-refused-requires
+refused-requires c κs = search needs
+
+same-length : tie.Need-same-length
+same-length c = search needs
+
+same-length-2 : tie.Need-same-length-2
+same-length-2 c = search needs
+
+same-length-3 : tie.Need-same-length-3
+same-length-3 c = search needs
+
+same-length-4 : tie.Need-same-length-4
+same-length-4 c = search needs
+
+same-length-5 : tie.Need-same-length-5
+same-length-5 c = search needs
+
+same-length-6 : tie.Need-same-length-6
+same-length-6 c = search needs
+
+same-length-7 : tie.Need-same-length-7
+same-length-7 c = search needs
+
+returns : tie.Need-returns
+returns c =
+    let at = c .before .before .before .before .before .before .before .before .before .before .before .before .before .before .before .before .before .before .before .before .before .before .before in
+    let call = c .before .before .before .before .before .before .before .before .before .before .before .before .before .before .before .before .close in
+    closed-did (told (at .before .before .before .before .before .before .before .before .before .before .before .before)) _ _ _ (parts _ _ _) (buffers _ _ _) _ (at .before .before .before .way-of .ensures) (at .before .way .given .1)
+    (record { words = call .kept .0; handles = call .kept .1 .0; marks = call .kept .1 .1 .0 }) (call .ensures) (c .before .before .free-key .ensures)
+
+same-length-8 : tie.Need-same-length-8
+same-length-8 c = search needs
+
+returns-2 : tie.Need-returns-2
+returns-2 c =
+    turned-did (told (c .before .before .before .before .before .before .before .before .before .before .before .before .before)) close 0 refl refl _ _ _ (c .before .before .before .before .way-of .ensures) (c .before .before .way2 .given .1)
+    (c .refused .ensures)
+
+pub close-spec : {M : Type 1} → statement M
+close-spec =
+    tie.close
+    (tie.spec
+    way-of-requires
+    enum-known-way
+    mul-from
+    mul-slot
+    add-close
+    mul-close
+    sub-close
+    part-close-start
+    part-close-end
+    add-close-2
+    mul-close-2
+    sub-close-2
+    part-close-start-2
+    part-close-end-2
+    add-close-3
+    sub-close-3
+    part-close-start-3
+    part-close-end-3
+    close-requires
+    free-key-requires
+    enum-known-way-2
+    refused-requires
+    same-length
+    same-length-2
+    same-length-3
+    same-length-4
+    same-length-5
+    same-length-6
+    same-length-7
+    returns
+    same-length-8
+    returns-2)

@@ -1,0 +1,3 @@
+pub mod Event
+pub mod Writes
+pub mod Calls

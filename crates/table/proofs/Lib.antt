@@ -1,0 +1,9 @@
+pub mod First
+pub mod Ways
+pub mod Places
+pub mod Parts
+pub mod Stored
+pub mod Zeroing
+pub mod Telling
+pub mod Showing
+pub mod Viewing

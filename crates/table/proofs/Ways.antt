@@ -1,0 +1,168 @@
+-- What the number says that is decided before the table is looked at, and what each way of an event says. Assumes nothing.
+use Prim.Native.Nat.{ℕ, zero, suc, _≤_}
+use mathlib.Core.Path.{_≡_, refl, ap, _∙_}
+use mathlib.Core.Logic.{_⊎_, inl, inr, ⊎-elim}
+use mathlib.Core.Bool.{Bool, true, false, cond, _&&_}
+use native.Mathlib.Omega.{arith}
+use mathlib.Core.List.{List}
+use borrow.Author.Tests.{eqb-true, eqb-false, leb-true, eq-eqb, ne-eqb}
+use lib.Dec.{leb, eqb}
+use Rattle.larq.specs.Channel.{window}
+use Rattle.larq.specs.Table.{Key, Lent, lentEnough}
+use Rattle.table.specs.First.{firstPlace, stores}
+use Rattle.table.specs.Key.{firstWord}
+use Rattle.table.specs.Table.{whole}
+use Rattle.table.specs.Way.{lentOf, judged, placeFor, wayBy, dataWayBy, openingAt}
+use Rattle.table.specs.declared.lookup.Found.{Found}
+use Rattle.table.specs.declared.way.Way.{Way}
+use Rattle.table.specs.declared.way.DataWay.{DataWay}
+
+pub both : (a b : Bool) → a && b ≡ true → (a ≡ true) × (b ≡ true)
+both true b e = (refl, e)
+both false b e = let z : _≡_ {A = ℕ} 0 1 = cc in absurd (let y : ⊥ = omega arith in y)
+
+passed : (b : Bool) (x n : ℕ) → cond b x (suc n) ≡ 0 → (b ≡ true) × (x ≡ 0)
+passed true x n e = (refl, e)
+passed false x n e = absurd (let z : ⊥ = omega arith in z)
+
+-- the tests of numbers 1 to 3 pass
+pub record Passed (l : Lent) (s p : ℕ) : Type 0 where
+  pub lent : lentEnough window l ≡ true
+  pub number : leb s 4095 ≡ true
+  pub priority : leb p 7 ≡ true
+
+pub judged-passed : (l : Lent) (s p : ℕ) → judged l s p ≡ 0 → Passed l s p
+unfolding judged
+judged-passed l s p e =
+    let one = passed (lentEnough window l) (cond (leb s 4095) (cond (leb p 7) 0 3) 2) 0 e in
+    let two = passed (leb s 4095) (cond (leb p 7) 0 3) 1 (one .1) in
+    record { lent = one .0; number = two .0; priority = passed (leb p 7) 0 2 (two .1) .0 }
+
+-- the lengths of a whole table's slices
+pub record Whole (k w h m : ℕ) : Type 0 where
+  pub keys : k ≡ 128
+  pub words : w ≡ 2240
+  pub handles : h ≡ 2048
+  pub marks : m ≡ 2048
+
+pub whole-sizes : (k w h m : ℕ) → whole k w h m ≡ true → Whole k w h m
+whole-sizes k w h m e =
+    let one = both (eqb k 128) (eqb w 2240 && (eqb h 2048 && eqb m 2048)) e in
+    let two = both (eqb w 2240) (eqb h 2048 && eqb m 2048) (one .1) in
+    let three = both (eqb h 2048) (eqb m 2048) (two .1) in
+    record {
+      keys = eqb-true k 128 (one .0);
+      words = eqb-true w 2240 (two .0);
+      handles = eqb-true h 2048 (three .0);
+      marks = eqb-true m 2048 (three .1);
+    }
+
+-- the room of the answer buffers
+pub record Room (u r n : ℕ) : Type 0 where
+  pub up : 32 ≤ u
+  pub returned : 32 ≤ r
+  pub nack : 32 ≤ n
+
+pub lent-room : (l : Lent) → lentEnough window l ≡ true → Room (l .up) (l .returned) (l .nack)
+lent-room l e =
+    let rooms = both (leb 32 (l .up) && (leb 32 (l .returned) && leb 32 (l .nack))) (l .whole) e .0 in
+    let one = both (leb 32 (l .up)) (leb 32 (l .returned) && leb 32 (l .nack)) rooms in
+    let two = both (leb 32 (l .returned)) (leb 32 (l .nack)) (one .1) in
+    record { up = leb-true 32 (l .up) (one .0); returned = leb-true 32 (l .returned) (two .0); nack = leb-true 32 (l .nack) (two .1) }
+
+pub lent-whole : (l : Lent) → lentEnough window l ≡ true → l .whole ≡ true
+lent-whole l e = both (leb 32 (l .up) && (leb 32 (l .returned) && leb 32 (l .nack))) (l .whole) e .1
+
+-- the keys of what is lent enough are those of 64 places
+pub keys-sized : (k w h m u r n s p : ℕ) → judged (lentOf k w h m u r n) s p ≡ 0 → k ≡ 128
+keys-sized k w h m u r n s p e =
+    whole-sizes k w h m (lent-whole (lentOf k w h m u r n) (judged-passed (lentOf k w h m u r n) s p e .lent)) .keys
+
+-- the way that follows from the number and the place
+pub way-early : (n m : ℕ) (f : Found) → n ≡ m → (n ≡ 0 → ⊥) → Way.Refused n ≡ wayBy m f
+unfolding wayBy
+way-early n zero f e z = absurd (z e)
+way-early n (suc m) f e z = rw e
+
+pub way-none : (n : ℕ) (f : Found) → n ≡ 0 → f ≡ Found.Nothing → Way.Refused 4 ≡ wayBy n f
+unfolding wayBy
+way-none n f e g = rw (e, g)
+
+pub way-known : (n : ℕ) (f : Found) (i : ℕ) → n ≡ 0 → f ≡ Found.At i → Way.Known i ≡ wayBy n f
+unfolding wayBy
+way-known n f i e g = rw (e, g)
+
+-- what the lookup finds is the place for the key whose words it was given
+pub placed : (keys : List ℕ) (k : Key) (x y : ℕ) (f : Found) → f ≡ firstPlace (stores keys x y) → x ≡ firstWord k → y ≡ k .source → placeFor keys k ≡ f
+placed keys k x y f e first second = rw (← first, ← second, ← e)
+
+-- data opens where number 4 would be given
+pub data-known : (w : Way) (spare : Found) (i : ℕ) → w ≡ Way.Known i → DataWay.Known i ≡ dataWayBy w spare
+unfolding dataWayBy
+data-known w spare i e = rw e
+
+pub data-refused : (w : Way) (spare : Found) (n : ℕ) → w ≡ Way.Refused n → (n ≡ 4 → ⊥) → DataWay.Refused n ≡ dataWayBy w spare
+unfolding dataWayBy
+data-refused w spare n e z = rw (e, ne-eqb n 4 z)
+
+pub data-opens : (w : Way) (spare f : Found) (n : ℕ) → w ≡ Way.Refused n → n ≡ 4 → spare ≡ f → openingAt f ≡ dataWayBy w spare
+unfolding dataWayBy
+data-opens w spare f n e z g = rw (e, eq-eqb n 4 z, g)
+
+-- what each way says of the number and the place
+pub known-way : (n : ℕ) (f : Found) (i : ℕ) → wayBy n f ≡ Way.Known i → (n ≡ 0) × (f ≡ Found.At i)
+unfolding wayBy
+known-way zero (Found.At j) i e = (refl, cc)
+known-way zero Found.Nothing i e = absurd (let z : _≡_ {A = ℕ} 0 1 = cc in let y : ⊥ = omega arith in y)
+known-way (suc n) f i e = absurd (let z : _≡_ {A = ℕ} 0 1 = cc in let y : ⊥ = omega arith in y)
+
+pub refused-way : (n : ℕ) (f : Found) (m : ℕ) → wayBy n f ≡ Way.Refused m
+    → ((n ≡ m) × (n ≡ 0 → ⊥)) ⊎ ((n ≡ 0) × (f ≡ Found.Nothing) × (m ≡ 4))
+unfolding wayBy
+refused-way zero (Found.At j) m e = absurd (let z : _≡_ {A = ℕ} 0 1 = cc in let y : ⊥ = omega arith in y)
+refused-way zero Found.Nothing m e = inr (refl, refl, cc)
+refused-way (suc n) f m e = inl (cc, λ z. omega arith)
+
+-- number 4 comes of a lookup that finds nothing
+pub unknown-way : (l : Lent) (s p : ℕ) (f : Found) (m : ℕ) → wayBy (judged l s p) f ≡ Way.Refused m → m ≡ 4 → (judged l s p ≡ 0) × (f ≡ Found.Nothing)
+unfolding judged
+unknown-way l s p f m e four =
+    ⊎-elim (λ z. absurd (small (lentEnough window l) (leb s 4095) (leb p 7) (z .0 ∙ four))) (λ z. (z .0, z .1)) (refused-way (judged l s p) f m e)
+  where
+    small : (a b d : Bool) → _≡_ {A = ℕ} (cond a (cond b (cond d 0 3) 2) 1) 4 → ⊥
+    small true true true e = omega arith
+    small true true false e = omega arith
+    small true false d e = omega arith
+    small false b d e = omega arith
+
+pub data-way-known : (w : Way) (spare : Found) (i : ℕ) → dataWayBy w spare ≡ DataWay.Known i → w ≡ Way.Known i
+unfolding dataWayBy
+data-way-known (Way.Known j) spare i e = cc
+data-way-known (Way.Refused n) spare i e = absurd (go (eqb n 4) spare e)
+  where
+    go : (b : Bool) (f : Found) → cond b (openingAt f) (DataWay.Refused n) ≡ DataWay.Known i → ⊥
+    go true (Found.At j) q = let z : _≡_ {A = ℕ} 0 1 = cc in omega arith
+    go true Found.Nothing q = let z : _≡_ {A = ℕ} 0 1 = cc in omega arith
+    go false f q = let z : _≡_ {A = ℕ} 0 1 = cc in omega arith
+
+pub data-way-free : (w : Way) (spare : Found) (i : ℕ) → dataWayBy w spare ≡ DataWay.Free i → (w ≡ Way.Refused 4) × (spare ≡ Found.At i)
+unfolding dataWayBy
+data-way-free (Way.Known j) spare i e = absurd (let z : _≡_ {A = ℕ} 0 1 = cc in let y : ⊥ = omega arith in y)
+data-way-free (Way.Refused n) spare i e = go (eqb n 4) refl spare e
+  where
+    go : (b : Bool) → eqb n 4 ≡ b → (f : Found) → cond b (openingAt f) (DataWay.Refused n) ≡ DataWay.Free i → (Way.Refused n ≡ Way.Refused 4) × (f ≡ Found.At i)
+    go true four (Found.At j) q = (ap Way.Refused (eqb-true n 4 four), cc)
+    go true four Found.Nothing q = absurd (let z : _≡_ {A = ℕ} 0 1 = cc in let y : ⊥ = omega arith in y)
+    go false four f q = absurd (let z : _≡_ {A = ℕ} 0 1 = cc in let y : ⊥ = omega arith in y)
+
+pub data-way-refused : (w : Way) (spare : Found) (n : ℕ) → dataWayBy w spare ≡ DataWay.Refused n
+    → ((w ≡ Way.Refused n) × (n ≡ 4 → ⊥)) ⊎ ((w ≡ Way.Refused 4) × (spare ≡ Found.Nothing) × (n ≡ 5))
+unfolding dataWayBy
+data-way-refused (Way.Known j) spare n e = absurd (let z : _≡_ {A = ℕ} 0 1 = cc in let y : ⊥ = omega arith in y)
+data-way-refused (Way.Refused m) spare n e = go (eqb m 4) refl spare e
+  where
+    go : (b : Bool) → eqb m 4 ≡ b → (f : Found) → cond b (openingAt f) (DataWay.Refused m) ≡ DataWay.Refused n
+        → ((Way.Refused m ≡ Way.Refused n) × (n ≡ 4 → ⊥)) ⊎ ((Way.Refused m ≡ Way.Refused 4) × (f ≡ Found.Nothing) × (n ≡ 5))
+    go true four (Found.At j) q = absurd (let z : _≡_ {A = ℕ} 0 1 = cc in let y : ⊥ = omega arith in y)
+    go true four Found.Nothing q = inr (ap Way.Refused (eqb-true m 4 four), refl, cc)
+    go false four f q = let same : m ≡ n = cc in inl (ap Way.Refused same, λ z. eqb-false m 4 four (same ∙ z))

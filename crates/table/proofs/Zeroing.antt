@@ -1,0 +1,71 @@
+-- A slice whose first i elements are zeros: what a loop that clears it from the front keeps. And a table of zeros is the empty table. Assumes nothing.
+use Prim.Native.Nat.{ℕ, zero, suc, _+_, _-_, _*_, _≤_, _<_}
+use mathlib.Core.Path.{_≡_, refl, ap, _∙_}
+use mathlib.Core.Bool.{true, false}
+use mathlib.Core.List.{List, _∷_, _++_, append-nil}
+use native.Mathlib.Omega.{arith}
+use borrow.Author.Fill.{fill-more}
+use lib.ListN.{length, set, take, drop, replicate, length-set}
+use lib.Seq.{drop-length}
+use Rattle.larq.specs.Table.{free, Table}
+use Rattle.larq.specs.Run.{empty}
+use Rattle.channel.proofs.Appending.{drop-replicate}
+use Rattle.table.specs.First.{places}
+use Rattle.table.specs.Table.{Slices, slices, part, placeOf, placeAt, placesFrom, tableOf}
+use Rattle.table.specs.Emptied.{wholeSlices, allZeros, Emptied}
+use Rattle.table.proofs.Places.{same-places}
+use Rattle.table.proofs.Stored.{zeros-free}
+use Rattle.table.proofs.Ways.{whole-sizes}
+
+pub record Zeroed (before now : List ℕ) (end i : ℕ) : Type 0 where
+  pub all : end ≡ length before
+  pub sized : length now ≡ length before
+  pub within : i ≤ end
+  pub is : now ≡ replicate i 0 ++ drop i before
+
+module _ {before now : List ℕ} {end i : ℕ} (z : Zeroed before now end i) where
+  pub zeroed-more : i < end → Zeroed before (set now i 0) end (i + 1)
+  zeroed-more h =
+      record {
+        all = z .all;
+        sized = simp length-set (z .sized);
+        within = omega arith;
+        is = ap (λ (l : List ℕ). set l i 0) (z .is) ∙ fill-more i 0 before (omega (arith, z .all));
+      }
+
+  pub zeroed-all : end ≤ i → now ≡ replicate (length before) 0
+  zeroed-all h =
+      let e : i ≡ length before = omega (arith, z .all, z .within) in
+      z .is ∙ rw e (ap (λ (l : List ℕ). replicate (length before) 0 ++ l) (drop-length before) ∙ append-nil (replicate (length before) 0))
+
+-- every place of a table of zeros is free
+take-zeros : (n m : ℕ) → n ≤ m → take n (replicate m (let v : ℕ = 0 in v)) ≡ replicate n 0
+take-zeros zero m h = refl
+take-zeros (suc n) zero h = absurd (let z : ⊥ = omega arith in z)
+take-zeros (suc n) (suc m) h = ap (λ (r : List ℕ). 0 ∷ r) (take-zeros n m (omega arith))
+
+part-zeros : (n i m : ℕ) → n * i + n ≤ m → part n i (replicate m 0) ≡ replicate n 0
+unfolding part
+part-zeros n i m h = ap (take n) (drop-replicate (n * i) m 0) ∙ take-zeros n (m - n * i) (omega arith)
+
+free-everywhere : (n i : ℕ) → placesFrom (λ j. free) i n ≡ replicate n free
+unfolding placesFrom
+free-everywhere zero i = refl
+free-everywhere (suc n) i = ap (λ (t : Table ℕ). free ∷ t) (free-everywhere n (suc i))
+
+pub emptied : tableOf allZeros ≡ empty
+emptied =
+    same-places (placeAt allZeros) (λ j. free) places 0
+    (λ i low high. ap placeOf (rw (part-zeros 2 i 128 (omega arith), part-zeros 35 i 2240 (omega arith), part-zeros 32 i 2048 (omega arith))) ∙ zeros-free)
+    ∙ free-everywhere places 0
+
+-- what `empty` leaves, by whether the slices are those of a table
+pub kept : (s : Slices) → wholeSlices s ≡ false → Emptied s s 1
+kept s e = record { number = rw e; table = rw e }
+
+pub cleared : (keys words handles marks k w h m : List ℕ) → wholeSlices (slices keys words handles marks) ≡ true
+    → k ≡ replicate (length keys) 0 → w ≡ replicate (length words) 0 → h ≡ replicate (length handles) 0 → m ≡ replicate (length marks) 0
+    → Emptied (slices keys words handles marks) (slices k w h m) 0
+cleared keys words handles marks k w h m e ek ew eh em =
+    let sized = whole-sizes (length keys) (length words) (length handles) (length marks) e in
+    record { number = rw e; table = rw (e, ek, ew, eh, em, sized .keys, sized .words, sized .handles, sized .marks) }

@@ -1,0 +1,53 @@
+-- `zero_u32` meets its contract: after i turns the first i elements are zeros.
+use mathlib.Core.Path.{refl}
+use borrow.Author.Fill.{fill-none}
+use borrow.Author.Needs.{needs}
+use Prim.Native.Nat.{_-_}
+use Rattle.table.proofs.Zeroing.{Zeroed, zeroed-more, zeroed-all}
+use Rattle.table.proofs.zeros.zero_u32.Statement.{statement}
+use Rattle.table.proofs.zeros.zero_u32.Tie as tie
+
+abbrev Inv-loop : tie.InvT-loop
+Inv-loop handles₀ i₀ i-end handles i = Zeroed handles₀ handles i-end i
+
+abbrev μ-loop : tie.MeasureT-loop
+μ-loop handles₀ i₀ i-end handles i = i-end - i
+
+loop-holds : tie.Need-loop-holds Inv-loop μ-loop
+loop-holds c = record { all = refl; sized = refl; within = search needs; is = fill-none _ 0 }
+
+mul-handles : tie.Need-mul-handles Inv-loop μ-loop
+mul-handles c = search needs
+
+slice-write-handles : tie.Need-slice-write-handles Inv-loop μ-loop
+slice-write-handles c = search needs
+
+add-i : tie.Need-add-i Inv-loop μ-loop
+add-i c = search needs
+
+loop-less : tie.Need-loop-less Inv-loop μ-loop
+loop-less c = search needs
+
+loop-again : tie.Need-loop-again Inv-loop μ-loop
+loop-again c = zeroed-more (c .before .loop .inv) (c .loop-test .taken)
+
+same-length : tie.Need-same-length Inv-loop μ-loop
+same-length c = c .before .loop .inv .sized
+
+returns : tie.Need-returns Inv-loop μ-loop
+returns c = zeroed-all (c .before .loop .inv) (c .loop-test .left)
+
+pub zero-u32-spec : {M : Type 1} → statement M
+zero-u32-spec =
+    tie.close
+    (tie.spec
+    Inv-loop
+    μ-loop
+    loop-holds
+    mul-handles
+    slice-write-handles
+    add-i
+    loop-less
+    loop-again
+    same-length
+    returns)

@@ -1,0 +1,28 @@
+-- The first of the 64 places that passes a test. Document 01, 'The channel table': the channel of a key is the first open place with that
+-- key, and a new channel takes the first free place.
+use Prim.Native.Nat.{ℕ, zero, suc, _+_, _*_}
+use mathlib.Core.Bool.{Bool, cond, _&&_}
+use mathlib.Core.List.{List}
+use lib.ListN.{getD}
+use lib.Dec.{eqb}
+use Rattle.table.specs.declared.lookup.Found.{Found}
+use Rattle.table.specs.declared.lookup.Found.the-variants.{At, Nothing}
+
+abbrev pub places : ℕ
+places = 64
+
+-- of n places from the i-th on
+unfoldable pub firstFrom : (ℕ → Bool) → ℕ → ℕ → Found
+firstFrom test i zero = Nothing
+firstFrom test i (suc n) = cond (test i) (At i) (firstFrom test (suc i) n)
+
+abbrev pub firstPlace : (ℕ → Bool) → Found
+firstPlace test = firstFrom test 0 places
+
+-- place i stores a key of these two words
+abbrev pub stores : List ℕ → ℕ → ℕ → ℕ → Bool
+stores keys first second i = eqb (getD keys (2 * i) 0) first && eqb (getD keys (2 * i + 1) 0) second
+
+-- place i stores no key
+abbrev pub storesNone : List ℕ → ℕ → Bool
+storesNone keys i = eqb (getD keys (2 * i) 0) 0

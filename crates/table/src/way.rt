@@ -1,0 +1,169 @@
+// Where an event goes, decided before anything is written: numbers 1 to 5 of document 01, 'Numbers the box may answer with', in its order.
+ghost use mathlib.Core.Path.{_≡_};
+ghost use Prim.Native.Nat.{_<_};
+ghost use lib.ListN.{length};
+ghost use lib.Dec.{leb};
+ghost use mathlib.Core.Bool.{_&&_};
+ghost use Rattle.larq.specs.Channel.{window};
+ghost use Rattle.larq.specs.Table.{lentEnough};
+ghost use Rattle.table.specs.First.{firstPlace, storesNone};
+ghost use Rattle.table.specs.Key.{keyOf};
+ghost use Rattle.table.specs.Table.{whole};
+ghost use Rattle.table.specs.Way.{lentOf, judged, placeFor, wayBy, dataWayBy};
+use crate::KEY_WORDS;
+use crate::PLACES;
+use crate::SLOTS;
+use crate::WORDS;
+use crate::key::address;
+use crate::key::first_word;
+use crate::lookup::Found;
+use crate::lookup::find;
+use crate::lookup::find_free;
+use larq::WINDOW;
+
+// The lengths of a table's slices.
+const KEYS_IN_ALL: usize = KEY_WORDS * PLACES;
+
+const WORDS_IN_ALL: usize = WORDS * PLACES;
+
+const SLOTS_IN_ALL: usize = SLOTS * PLACES;
+
+// To the place of its channel, or nowhere.
+pub enum Way {
+    Known(usize),
+    Refused(u8),
+}
+
+// Data, to the place of its channel, or to a free one, where it opens a channel, or nowhere.
+pub enum DataWay {
+    Known(usize),
+    Free(usize),
+    Refused(u8),
+}
+
+// Whether the slices are those of a table of 64 places.
+pub(crate) fn is_whole(keys: usize, words: usize, handles: usize, marks: usize) -> bool
+    ensures { λ r. ⌜ r ≡ whole keys words handles marks ⌝ }
+{
+    (keys == KEYS_IN_ALL)
+        & ((words == WORDS_IN_ALL) & ((handles == SLOTS_IN_ALL) & (marks == SLOTS_IN_ALL)))
+}
+
+// Whether the three answer buffers have the room that any answer may need.
+fn has_room(up: usize, returned: usize, nack: usize) -> bool
+    ensures { λ r. ⌜ r ≡ (leb 32 up && (leb 32 returned && leb 32 nack)) ⌝ }
+{
+    let room = WINDOW as usize;
+    (room <= up) & ((room <= returned) & (room <= nack))
+}
+
+// The numbers 1 to 3, or 0 where none of them applies.
+fn judge(
+    keys: usize,
+    words: usize,
+    handles: usize,
+    marks: usize,
+    up: usize,
+    returned: usize,
+    nack: usize,
+    number: u16,
+    priority: u8,
+) -> u8
+    ensures { λ r. ⌜ r ≡ judged (lentOf keys words handles marks up returned nack) number priority ⌝ }
+{
+    if !(has_room(up, returned, nack) & is_whole(keys, words, handles, marks)) {
+        return 1;
+    }
+    if number > 4095 {
+        return 2;
+    }
+    if priority > 7 {
+        return 3;
+    }
+    0
+}
+
+// Where reminder, tick and close go. An event that has no number is judged as if it had number 0.
+pub fn way_of(
+    keys: &[u64],
+    words: usize,
+    handles: usize,
+    marks: usize,
+    up: usize,
+    returned: usize,
+    nack: usize,
+    number: u16,
+    destination: &[u8; 6],
+    source: &[u8; 6],
+    priority: u8,
+) -> Way
+    ensures { λ r. ⌜ r
+        ≡ wayBy (judged (lentOf (length (now (keys .entry))) words handles marks up returned nack) number priority)
+        (placeFor (now (keys .entry)) (keyOf (now (destination .entry)) (now (source .entry)) priority)) ⌝ }
+{
+    let refusal = judge(
+        keys.len(),
+        words,
+        handles,
+        marks,
+        up,
+        returned,
+        nack,
+        number,
+        priority,
+    );
+    if refusal != 0 {
+        return Way::Refused(refusal);
+    }
+    let Found::At(i) = find(keys, first_word(destination, priority), address(source)) else {
+        return Way::Refused(4);
+    };
+    Way::Known(i)
+}
+
+// Where data goes: where another event would be refused by number 4, data opens a channel.
+pub fn data_way_of(
+    keys: &[u64],
+    words: usize,
+    handles: usize,
+    marks: usize,
+    up: usize,
+    returned: usize,
+    nack: usize,
+    number: u16,
+    destination: &[u8; 6],
+    source: &[u8; 6],
+    priority: u8,
+) -> DataWay
+    ensures { λ r. ⌜ r
+        ≡ dataWayBy
+        (wayBy (judged (lentOf (length (now (keys .entry))) words handles marks up returned nack) number priority)
+        (placeFor (now (keys .entry)) (keyOf (now (destination .entry)) (now (source .entry)) priority)))
+        (firstPlace (storesNone (now (keys .entry)))) ⌝ }
+{
+    let way = way_of(
+        keys,
+        words,
+        handles,
+        marks,
+        up,
+        returned,
+        nack,
+        number,
+        destination,
+        source,
+        priority,
+    );
+    match way {
+        Way::Known(place) => DataWay::Known(place),
+        Way::Refused(n) => {
+            if n != 4 {
+                return DataWay::Refused(n);
+            }
+            let Found::At(i) = find_free(keys) else {
+                return DataWay::Refused(5);
+            };
+            DataWay::Free(i)
+        }
+    }
+}
