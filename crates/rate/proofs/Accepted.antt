@@ -1,6 +1,6 @@
--- What an accepted frame has: each test passed, its addresses within it, and the reading put together from its fields.
+-- What an accepted frame has: what is given of it, put together from its fields, each test passed, and its addresses within it.
 -- Assumes nothing.
-use mathlib.Core.Path.{_≡_, refl, sym, _∙_, ap}
+use mathlib.Core.Path.{_≡_, refl}
 use mathlib.Core.Bool.{true}
 use mathlib.Core.List.{List}
 use mathlib.Core.Logic.{_⊎_, ⊎-elim}
@@ -9,26 +9,17 @@ use native.Mathlib.Omega.{arith}
 use borrow.Author.Tests.{leb-true, eqb-true}
 use lib.Dec.{leb, lit<}
 use lib.ListN.{length}
-use Rattle.wire.specs.Octets.{octetAt, sixAt}
 use Rattle.wire.specs.Refusals.{first}
 use Rattle.wire.specs.ShortFormat.{ssLength, headerLength}
 use Rattle.wire.proofs.First.{test}
 use Rattle.wire.proofs.Answered.{all-pass, decided}
 use Rattle.wire.proofs.Joined.{and-right}
-use Rattle.rate.specs.Reading.{opcodeOf, bandsOf, countOf, ofBandTwo, startOf, extentOf, requestOf, ssLengthFits, lengthsAgree, refusals, refusedBy, accepted, readOf}
+use Rattle.rate.specs.Reading.{opcodeOf, bandsOf, countOf, pe1Of, rank1Of, pe2Of, rank2Of, startOf, extentOf, requestWith, requestOf, ssLengthFits, lengthsAgree, refusals, refusedBy, givenOf, accepted, readOf}
 
-module _ (s : List ℕ) {destination source : List ℕ} {opcode bands pe1 rank1 pe2 rank2 addresses start extent : ℕ} where
-  pub accepted-fields : destination ≡ sixAt s 0 → source ≡ sixAt s 6 → opcode ≡ opcodeOf s → bands ≡ bandsOf s → pe1 ≡ octetAt s 20 → rank1 ≡ octetAt s 21
-      → pe2 ≡ ofBandTwo s 22 → rank2 ≡ ofBandTwo s 23 → addresses ≡ countOf s → start ≡ startOf s → extent ≡ extentOf s
-      → record {
-        number = 0;
-        request = record { destination = destination; source = source; opcode = opcode; bands = bands; pe1 = pe1; rank1 = rank1; pe2 = pe2; rank2 = rank2 };
-        addresses = addresses;
-        start = start;
-        extent = extent;
-      } ≡ accepted s
-  unfolding accepted requestOf
-  accepted-fields d e o b p r p′ r′ a t x = cc
+pub accepted-fields : (s : List ℕ) {opcode bands pe1 rank1 pe2 rank2 addresses : ℕ} → opcode ≡ opcodeOf s → bands ≡ bandsOf s → pe1 ≡ pe1Of s → rank1 ≡ rank1Of s
+    → pe2 ≡ pe2Of s → rank2 ≡ rank2Of s → addresses ≡ countOf s → givenOf (requestWith s opcode bands pe1 rank1 pe2 rank2) addresses ≡ accepted s
+unfolding requestOf accepted
+accepted-fields s o b p r p′ r′ a = cc
 
 module _ (s : List ℕ) (none : first (refusals s) ≡ 0) where
   pub passed : (k : ℕ) → k < length (refusals s) → test (refusals s) k .passes ≡ true
@@ -50,7 +41,7 @@ module _ (s : List ℕ) (none : first (refusals s) ≡ 0) where
 
 -- the octets that a reading points to lie within the frame, refused or not
 pub reading-within : (s : List ℕ) → readOf s .start + readOf s .extent ≤ length s
-unfolding readOf refusals accepted
+unfolding readOf refusals accepted requestOf startOf extentOf
 reading-within s =
     ⊎-elim
     (λ d. rw (d .1) (addresses-within s (d .0)))

@@ -1,10 +1,9 @@
 -- Any two outcomes that a contract of this crate allows are equal; of octets handed back, as wire's Settled.antt says it.
 -- Assumes nothing.
-use mathlib.Core.Path.{_≡_, refl, sym, _∙_, ap}
+use mathlib.Core.Path.{_≡_, refl, sym, _∙_}
 use mathlib.Core.List.{List}
-use mathlib.Core.Option.{Option, none, some}
 use Prim.Native.Nat.{ℕ}
-use denote.Ref.{RefT, now}
+use denote.Ref.{RefT}
 use Rattle.wire.proofs.Settled.{value-settled, SamePart, part-settled}
 use Rattle.rate.specs.declared.Request.{Request}
 use Rattle.rate.specs.declared.Reading.{Reading}

@@ -1,6 +1,6 @@
 -- The rate of a PE and the chosen band. Document 01, 'Rate of a PE'; 001, clause 6.3.1, Table 8.
 use Prim.Native.Nat.{ℕ, _+_, _*_, _-_}
-use mathlib.Core.Bool.{Bool, cond, _&&_}
+use mathlib.Core.Bool.{cond, _&&_}
 use mathlib.Core.Option.{Option, none, some}
 use lib.Dec.{leb, ltb, eqb}
 use Rattle.rate.specs.declared.Request.{Request}

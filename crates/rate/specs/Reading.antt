@@ -29,46 +29,70 @@ countOf s = octetAt s 19
 unfoldable pub ofBandTwo : List ℕ → ℕ → ℕ
 ofBandTwo s at = cond (leb 2 (bandsOf s)) (octetAt s at) 0
 
--- the octets that hold the addresses: bands past the second are skipped unread
+abbrev pub pe1Of : List ℕ → ℕ
+pe1Of s = octetAt s 20
+
+abbrev pub rank1Of : List ℕ → ℕ
+rank1Of s = octetAt s 21
+
+abbrev pub pe2Of : List ℕ → ℕ
+pe2Of s = ofBandTwo s 22
+
+abbrev pub rank2Of : List ℕ → ℕ
+rank2Of s = ofBandTwo s 23
+
+-- where the addresses start, behind so many bands: those past the second are skipped unread
+abbrev pub startFor : ℕ → ℕ
+startFor bands = 20 + 2 * bands
+
+-- how many octets hold so many addresses
+abbrev pub extentFor : ℕ → ℕ
+extentFor addresses = 6 * addresses
+
 unfoldable pub startOf : List ℕ → ℕ
-startOf s = 20 + 2 * bandsOf s
+startOf s = startFor (bandsOf s)
 
 unfoldable pub extentOf : List ℕ → ℕ
-extentOf s = 6 * countOf s
+extentOf s = extentFor (countOf s)
 
+-- the octets that hold the addresses
 unfoldable pub addressesOf : List ℕ → List ℕ
 addressesOf s = partAt s (startOf s) (extentOf s)
 
-unfoldable pub requestOf : List ℕ → Request
-requestOf s =
+-- a request between a frame's two stations
+abbrev pub requestWith : List ℕ → ℕ → ℕ → ℕ → ℕ → ℕ → ℕ → Request
+requestWith s opcode bands pe1 rank1 pe2 rank2 =
     record {
       destination = sixAt s 0;
       source = sixAt s 6;
-      opcode = opcodeOf s;
-      bands = bandsOf s;
-      pe1 = octetAt s 20;
-      rank1 = octetAt s 21;
-      pe2 = ofBandTwo s 22;
-      rank2 = ofBandTwo s 23;
+      opcode = opcode;
+      bands = bands;
+      pe1 = pe1;
+      rank1 = rank1;
+      pe2 = pe2;
+      rank2 = rank2;
     }
 
--- 10
+unfoldable pub requestOf : List ℕ → Request
+requestOf s = requestWith s (opcodeOf s) (bandsOf s) (pe1Of s) (rank1Of s) (pe2Of s) (rank2Of s)
+
+-- 10: 60 to 1,514 octets
 unfoldable pub lengthFits : List ℕ → Bool
 lengthFits s = leb 60 (length s) && leb (length s) 1514
 
--- 12
+-- 12: a rate request
 unfoldable pub ssTypeRight : List ℕ → Bool
 ssTypeRight s = eqb (ssType s) 1
 
--- 13
+-- 13: room for one band, and the header within the frame
 unfoldable pub ssLengthFits : List ℕ → Bool
 ssLengthFits s = leb 8 (ssLength s) && leb (headerLength s) (length s)
 
--- 14
+-- 14: version 0
 unfoldable pub ssVersionRight : List ℕ → Bool
 ssVersionRight s = eqb (ssVersion s) 0
 
--- 17
+-- 17: SSLength counts the fixed octets, the bands, the addresses and Next Ethertype
 unfoldable pub lengthsAgree : List ℕ → Bool
 lengthsAgree s = eqb (ssLength s) (6 + 2 * bandsOf s + 6 * countOf s)
 
@@ -88,9 +112,9 @@ refusals s =
     ∷ (opcodeRight (opcodeOf s) else 15)
     ∷ (someBand (bandsOf s) else 16)
     ∷ (lengthsAgree s else 17)
-    ∷ (bandOneRight (octetAt s 20) else 18)
-    ∷ (bandTwoRight (bandsOf s) (ofBandTwo s 22) else 19)
-    ∷ (ranksRight (bandsOf s) (octetAt s 21) (ofBandTwo s 23) else 20)
+    ∷ (bandOneRight (pe1Of s) else 18)
+    ∷ (bandTwoRight (bandsOf s) (pe2Of s) else 19)
+    ∷ (ranksRight (bandsOf s) (rank1Of s) (rank2Of s) else 20)
     ∷ (groupAddresses (addressesOf s) else 21)
     ∷ (nextEthertypeZero s else 22)
     ∷ []
@@ -106,8 +130,12 @@ refusedBy n =
       extent = 0;
     }
 
+-- what is given of a request with so many addresses
+abbrev pub givenOf : Request → ℕ → Reading
+givenOf q addresses = record { number = 0; request = q; addresses = addresses; start = startFor (q .bands); extent = extentFor addresses }
+
 unfoldable pub accepted : List ℕ → Reading
-accepted s = record { number = 0; request = requestOf s; addresses = countOf s; start = startOf s; extent = extentOf s }
+accepted s = givenOf (requestOf s) (countOf s)
 
 unfoldable pub readOf : List ℕ → Reading
 readOf s = answered refusedBy (refusals s) (accepted s)

@@ -40,7 +40,7 @@ unfoldable pub layoutHolds : Request → List ℕ → Bool
 layoutHolds q a =
     eqb (length a % 6) 0 && (leb (q .bands) 2 && (absentBandEmpty q && leb (ssLengthFor q a) 255))
 
--- 24
+-- 24: the output is as long as the frame
 unfoldable pub outputHolds : Request → List ℕ → ℕ → Bool
 outputHolds q a room = leb (length (frameFor q a)) room
 

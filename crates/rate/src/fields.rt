@@ -9,13 +9,12 @@ use wire::Checked;
 use wire::Field;
 ghost use mathlib.Core.Path.{_≡_};
 ghost use mathlib.Core.List.{[], _∷_};
-ghost use Prim.Native.Nat.{_+_, _*_};
-ghost use Rattle.wire.specs.Octets.{octetAt, partAt};
+ghost use Rattle.wire.specs.Octets.{partAt};
 ghost use Rattle.wire.specs.Refusals.{_else_};
 ghost use Rattle.wire.specs.Answers.{ruled, fieldSays, checkSays};
 ghost use Rattle.wire.specs.ShortFormat.{ethertypeRight, nextEthertypeZero};
 ghost use Rattle.rate.specs.Request.{opcodeRight, someBand, bandOneRight, bandTwoRight, ranksRight, groupAddresses};
-ghost use Rattle.rate.specs.Reading.{lengthFits, ssTypeRight, ssLengthFits, ssVersionRight, opcodeOf, bandsOf, countOf, lengthsAgree, ofBandTwo, pairSays};
+ghost use Rattle.rate.specs.Reading.{lengthFits, ssTypeRight, ssLengthFits, ssVersionRight, opcodeOf, bandsOf, countOf, pe1Of, rank1Of, pe2Of, rank2Of, ofBandTwo, startFor, extentFor, lengthsAgree, pairSays};
 
 // Both ranks at once, since number 20 speaks of the two.
 pub(crate) enum Pair {
@@ -81,21 +80,21 @@ pub(crate) fn addresses(frame: &[u8]) -> Field
 }
 
 pub(crate) fn band_one(frame: &[u8]) -> Field
-    ensures { λ r. ⌜ fieldSays 18 r ≡ ruled (bandOneRight (octetAt (now (frame .entry)) 20) else 18) (octetAt (now (frame .entry)) 20 ∷ []) ⌝ }
+    ensures { λ r. ⌜ fieldSays 18 r ≡ ruled (bandOneRight (pe1Of (now (frame .entry))) else 18) (pe1Of (now (frame .entry)) ∷ []) ⌝ }
 {
     let pe = wire::octet(frame, 20);
     wire::value_if(band_one_right(pe), pe)
 }
 
 pub(crate) fn band_two(frame: &[u8]) -> Field
-    ensures { λ r. ⌜ fieldSays 19 r ≡ ruled (bandTwoRight (bandsOf (now (frame .entry))) (ofBandTwo (now (frame .entry)) 22) else 19) (ofBandTwo (now (frame .entry)) 22 ∷ []) ⌝ }
+    ensures { λ r. ⌜ fieldSays 19 r ≡ ruled (bandTwoRight (bandsOf (now (frame .entry))) (pe2Of (now (frame .entry))) else 19) (pe2Of (now (frame .entry)) ∷ []) ⌝ }
 {
     let pe = of_band_two(frame, 22);
     wire::value_if(band_two_right(wire::octet(frame, 18), pe), pe)
 }
 
 pub(crate) fn ranks(frame: &[u8]) -> Pair
-    ensures { λ r. ⌜ pairSays 20 r ≡ ruled (ranksRight (bandsOf (now (frame .entry))) (octetAt (now (frame .entry)) 21) (ofBandTwo (now (frame .entry)) 23) else 20) (octetAt (now (frame .entry)) 21 ∷ ofBandTwo (now (frame .entry)) 23 ∷ []) ⌝ }
+    ensures { λ r. ⌜ pairSays 20 r ≡ ruled (ranksRight (bandsOf (now (frame .entry))) (rank1Of (now (frame .entry))) (rank2Of (now (frame .entry))) else 20) (rank1Of (now (frame .entry)) ∷ rank2Of (now (frame .entry)) ∷ []) ⌝ }
 {
     let rank1 = wire::octet(frame, 21);
     let rank2 = of_band_two(frame, 23);
@@ -106,7 +105,7 @@ pub(crate) fn ranks(frame: &[u8]) -> Pair
     }
 }
 
-// The addresses lie where the counts read before say.
+// The addresses lie where the counts that were read say.
 pub(crate) fn groups(frame: &[u8], start: usize, extent: usize) -> Checked
     ensures { λ r. ⌜ checkSays 21 r ≡ ruled (groupAddresses (partAt (now (frame .entry)) start extent) else 21) [] ⌝ }
 {
@@ -121,14 +120,14 @@ pub(crate) fn next_ethertype(frame: &[u8]) -> Checked
 
 // Where the addresses start: bands past the second are skipped unread.
 pub(crate) fn start(bands: u8) -> usize
-    ensures { λ r. ⌜ r ≡ 20 + 2 * bands ⌝ }
+    ensures { λ r. ⌜ r ≡ startFor bands ⌝ }
 {
     20 + 2 * bands as usize
 }
 
 // How many octets hold the addresses.
 pub(crate) fn extent(addresses: u8) -> usize
-    ensures { λ r. ⌜ r ≡ 6 * addresses ⌝ }
+    ensures { λ r. ⌜ r ≡ extentFor addresses ⌝ }
 {
     6 * addresses as usize
 }

@@ -6,11 +6,10 @@ use crate::fields::Pair;
 use wire::Checked;
 use wire::Field;
 ghost use mathlib.Core.Path.{_≡_};
-ghost use mathlib.Core.Bool.{cond};
 ghost use lib.ListN.{take, drop};
-ghost use Rattle.wire.specs.Octets.{within, OwnPart};
+ghost use Rattle.wire.specs.Octets.{OwnPartOrNone};
 ghost use Rattle.wire.specs.Refusals.{first, answered};
-ghost use Rattle.rate.specs.Reading.{refusals, refusedBy, accepted, readOf};
+ghost use Rattle.rate.specs.Reading.{refusals, refusedBy, requestWith, givenOf, accepted, readOf};
 ghost use Rattle.rate.specs.Receiving.{Receives};
 
 pub fn read(frame: &[u8]) -> Reading
@@ -39,7 +38,7 @@ pub fn receive<'a>(frame: &'a [u8]) -> Received<'a>
 
 // The octets of a frame at the place that a reading gives.
 fn held(frame: &[u8], reading: Reading) -> &[u8]
-    ensures { λ r. ⌜ OwnPart (frame .entry) (cond (within (now (frame .entry)) (reading .start) (reading .extent)) (reading .start) 0) (cond (within (now (frame .entry)) (reading .start) (reading .extent)) (reading .extent) 0) r ⌝ }
+    ensures { λ r. ⌜ OwnPartOrNone (frame .entry) (reading .start) (reading .extent) r ⌝ }
 {
     let start = reading.start;
     let extent = reading.extent;
@@ -90,14 +89,29 @@ fn request(frame: &[u8]) -> Reading
     let Pair::Ranks(rank1, rank2) = fields::ranks(frame) else {
         return refused(20);
     };
-    let start = fields::start(bands);
-    let extent = fields::extent(addresses);
-    let Checked::Right = fields::groups(frame, start, extent) else {
+    let Checked::Right = fields::groups(frame, fields::start(bands), fields::extent(addresses))
+    else {
         return refused(21);
     };
     let Checked::Right = fields::next_ethertype(frame) else {
         return refused(22);
     };
+    given(frame, opcode, bands, addresses, pe1, rank1, pe2, rank2)
+}
+
+// What is accepted: the request, and where the frame holds its addresses.
+fn given(
+    frame: &[u8],
+    opcode: u8,
+    bands: u8,
+    addresses: u8,
+    pe1: u8,
+    rank1: u8,
+    pe2: u8,
+    rank2: u8,
+) -> Reading
+    ensures { λ r. ⌜ r ≡ givenOf (requestWith (now (frame .entry)) opcode bands pe1 rank1 pe2 rank2) addresses ⌝ }
+{
     let destination = wire::six(frame, 0);
     let source = wire::six(frame, 6);
     let request = Request {
@@ -114,8 +128,8 @@ fn request(frame: &[u8]) -> Reading
         number: 0,
         request,
         addresses,
-        start,
-        extent,
+        start: fields::start(bands),
+        extent: fields::extent(addresses),
     }
 }
 

@@ -1,4 +1,4 @@
--- An accepted request with at most two bands is, given room, written again with the same header; room for the frame that was read is enough.
+-- An accepted request with at most two bands is, given room for the header and for 60 octets, written again with the same header.
 -- Document 01, 'The rate request on the wire'. Assumes nothing but that SSLength is an octet.
 use mathlib.Core.Path.{_≡_, refl, _∙_, sym, ap}
 use mathlib.Core.Bool.{Bool, true, false, cond, not, _&&_, _||_}
@@ -21,11 +21,11 @@ use Rattle.wire.proofs.Within.{le-within}
 use Rattle.rate.specs.declared.Request.{Request}
 use Rattle.rate.specs.declared.Reading.{Reading}
 use Rattle.rate.specs.declared.Written.{Written}
-use Rattle.rate.specs.Request.{opcodeRight, someBand, bandOneRight, bandTwoRight, ranksRight, groupAddresses}
-use Rattle.rate.specs.Reading.{opcodeOf, bandsOf, countOf, ofBandTwo, startOf, extentOf, addressesOf, requestOf, lengthFits, ssTypeRight, ssVersionRight, refusals, refusedBy, accepted, readOf}
+use Rattle.rate.specs.Request.{someBand}
+use Rattle.rate.specs.Reading.{bandsOf, countOf, ofBandTwo, startOf, extentOf, addressesOf, requestOf, ssTypeRight, ssVersionRight, refusals, refusedBy, accepted, readOf}
 use Rattle.rate.specs.Writing.{ssLengthFor, fixedPart, bandPart, headerFor, frameFor, absentBandEmpty, layoutHolds, outputHolds, writerRefusals, writeOf, outputOf, Wrote}
 use Rattle.roundtrip.specs.Trip.{WrittenAgain}
-use Rattle.rate.proofs.Accepted.{passed, header-within, lengths-agree, addresses-within}
+use Rattle.rate.proofs.Accepted.{passed, header-within, lengths-agree}
 use Rattle.rate.proofs.Frame.{length-frame}
 
 module _ (s : List ℕ) (none : first (refusals s) ≡ 0) (two : bandsOf s ≤ 2) (octet : ssLength s ≤ 255) where
@@ -140,12 +140,10 @@ module _ (s : List ℕ) (none : first (refusals s) ≡ 0) (two : bandsOf s ≤ 2
       by-test true = refl
       by-test false = refl
 
-  -- the frame that is written is at most as long as the one that was read
-  pub no-longer : length (frameFor (requestOf s) (addressesOf s)) ≤ length s
-  unfolding refusals lengthFits requestOf
-  no-longer =
-      let least : 60 ≤ length s = leb-true 60 (length s) (and-left (leb 60 (length s)) (leb (length s) 1514) (passed s none 0 (lit< tt))) in
-      rw same-part (omega (arith, length-frame (requestOf s) part (length-six s 0) (length-six s 6) two, length-part, header-within s none, lengths-agree s none))
+  -- room for 60 octets and for the header is room for the frame
+  pub frame-fits : (room : ℕ) → 60 ≤ room → headerLength s ≤ room → length (frameFor (requestOf s) (addressesOf s)) ≤ room
+  unfolding requestOf
+  frame-fits room least header = rw same-part (omega (arith, length-frame (requestOf s) part (length-six s 0) (length-six s 6) two, length-part, lengths-agree s none))
 
   pub writes-again : (room : ℕ) → length (frameFor (requestOf s) (addressesOf s)) ≤ room → first (writerRefusals (requestOf s) (addressesOf s) room) ≡ 0
   unfolding writerRefusals refusals requestOf outputHolds
@@ -156,9 +154,9 @@ module _ (s : List ℕ) (none : first (refusals s) ≡ 0) (two : bandsOf s ≤ 2
       (passed s none 5 (lit< tt), passed s none 6 (lit< tt), layout, passed s none 8 (lit< tt), passed s none 9 (lit< tt), passed s none 10 (lit< tt), passed s none 11 (lit< tt), holds)
 
 -- whatever the writer leaves of what was read begins with the same header
-module _ (s before after : List ℕ) (r : Written) (none : first (refusals s) ≡ 0) (two : bandsOf s ≤ 2) (octet : ssLength s ≤ 255) (room : length s ≤ length before) (wrote : Wrote (requestOf s) (addressesOf s) before after r) where
+module _ (s before after : List ℕ) (r : Written) (none : first (refusals s) ≡ 0) (two : bandsOf s ≤ 2) (octet : ssLength s ≤ 255) (least : 60 ≤ length before) (room : headerLength s ≤ length before) (wrote : Wrote (requestOf s) (addressesOf s) before after r) where
   fits : length (frameFor (requestOf s) (addressesOf s)) ≤ length before
-  fits = let l = no-longer s none two octet in omega arith
+  fits = frame-fits s none two octet (length before) least room
 
   nothing-refused : first (writerRefusals (requestOf s) (addressesOf s) (length before)) ≡ 0
   nothing-refused = writes-again s none two octet (length before) fits
@@ -178,7 +176,7 @@ module _ (s before after : List ℕ) (r : Written) (none : first (refusals s) �
 
 -- an accepted frame's reading has the request and the addresses of the definitions
 from-accepted : (s before after : List ℕ) (w : Written) → first (refusals s) ≡ 0 → Wrote (readOf s .request) (partAt s (readOf s .start) (readOf s .extent)) before after w → Wrote (requestOf s) (addressesOf s) before after w
-unfolding readOf refusals accepted addressesOf
+unfolding readOf refusals accepted addressesOf startOf extentOf requestOf
 from-accepted s before after w none wrote = rw (first-accepts refusedBy (accepted s) (refusals s) refl none) at wrote
 
 -- read, and then written: the contract of both together
@@ -189,8 +187,8 @@ module _ (s before after : List ℕ) (reading : Reading) (octets : List ℕ) (w 
       record {
         reading = e;
         written = whole;
-        number = λ none two room. accepted-again s before after w none two octet room (of-accepted none);
-        header = λ none two room. header-again s before after w none two octet room (of-accepted none);
+        number = λ none two least room. accepted-again s before after w none two octet least room (of-accepted none);
+        header = λ none two least room. header-again s before after w none two octet least room (of-accepted none);
       }
     where
       whole : Wrote (readOf s .request) (partAt s (readOf s .start) (readOf s .extent)) before after w

@@ -1,17 +1,16 @@
 -- What is written reads back as the same request, every field and the address octets, whatever padding follows the header.
 -- Document 01, 'The rate request on the wire'. Assumes nothing but that an address has six octets.
 use mathlib.Core.Path.{_≡_, refl, _∙_, sym, ap}
-use mathlib.Core.Bool.{Bool, true, false, cond, not, _&&_, _||_}
+use mathlib.Core.Bool.{Bool, true, false, cond, _&&_}
 use mathlib.Core.List.{List, [], _∷_, _++_, append-assoc}
 use mathlib.Core.Logic.{⊎-elim}
-use Prim.Native.Nat.{ℕ, zero, suc, _+_, _*_, _-_, _/_, _%_, _≤_, _<_}
-use native.Mathlib.Nat.{eq-zero-or-pos}
+use Prim.Native.Nat.{ℕ, _+_, _*_, _-_, _/_, _≤_, _<_}
 use native.Mathlib.Omega.{arith}
-use borrow.Author.Tests.{leb-true, leb-false, eqb-true, eqb-false, le-leb, eq-eqb, lt-leb, lt-ltb, le-ltb, not-true}
-use lib.Dec.{leb, ltb, eqb, lit<}
+use borrow.Author.Tests.{leb-true, eqb-true, le-leb, eq-eqb}
+use lib.Dec.{leb, eqb, lit<}
 use lib.ListN.{length, take, drop, replicate, length-append, length-replicate, List·getD-append}
 use lib.Seq.{getD-append-add, getD-take, take-at, drop-at}
-use Rattle.wire.specs.Octets.{octetAt, sixAt, partAt}
+use Rattle.wire.specs.Octets.{octetAt, sixAt, within, partAt}
 use Rattle.wire.specs.Refusals.{first, answered}
 use Rattle.wire.specs.ShortFormat.{ethertypeRight, ssType, ssLength, ssVersion, headerLength, nextEthertypeZero}
 use Rattle.wire.proofs.Answered.{first-accepts, first-refuses}
@@ -19,13 +18,14 @@ use Rattle.wire.proofs.Joined.{and-left, and-right, and-both}
 use Rattle.wire.proofs.Octets.{octet-behind, six-front, six-behind}
 use Rattle.wire.proofs.Within.{le-within}
 use Rattle.rate.specs.declared.Request.{Request}
+use Rattle.rate.specs.declared.Reading.{Reading}
 use Rattle.rate.specs.declared.Written.{Written}
 use Rattle.rate.specs.Request.{opcodeRight, someBand, bandOneRight, bandTwoRight, ranksRight, groupAddresses}
 use Rattle.rate.specs.Reading.{opcodeOf, bandsOf, countOf, ofBandTwo, startOf, extentOf, addressesOf, requestOf, lengthFits, ssTypeRight, ssLengthFits, ssVersionRight, lengthsAgree, refusals, refusedBy, accepted, readOf}
 use Rattle.rate.specs.Writing.{ssLengthFor, fixedPart, bandPart, headerFor, frameFor, absentBandEmpty, writerRefusals, Wrote}
 use Rattle.rate.proofs.Frame.{length-bands, length-header}
 use Rattle.rate.proofs.Writable.{may-write, may-layout, some-band, Accepted, Refused, wrote-either}
-use Rattle.roundtrip.specs.Trip.{asked}
+use Rattle.roundtrip.specs.Trip.{asked, ReadBack}
 
 module _ (q : Request) (a : List ℕ) (room : ℕ) (d6 : length (q .destination) ≡ 6) (s6 : length (q .source) ≡ 6) (none : first (writerRefusals q a room) ≡ 0) (pad : List ℕ) where
   -- the frame that is read: the header that was written, and what follows it
@@ -147,14 +147,18 @@ module _ (q : Request) (a : List ℕ) (room : ℕ) (d6 : length (q .destination)
   unfolding frame
   long = length-append (headerFor q a) pad ∙ ap (λ (n : ℕ). n + length pad) (length-header q a d6 s6 two)
 
-  pub same-addresses : addressesOf (headerFor q a ++ pad) ≡ a
-  unfolding addressesOf partAt startOf extentOf frame
-  same-addresses =
+  pub same-part : partAt (headerFor q a ++ pad) (20 + 2 * q .bands) (length a) ≡ a
+  unfolding partAt frame
+  same-part =
       let n = long in
       let w = le-within frame (20 + 2 * q .bands) (length a) (omega arith) in
-      simp (bands, count, whole, w)
+      simp w
       (ap (λ (l : List ℕ). take (length a) (drop (20 + 2 * q .bands) l)) by-addresses
       ∙ (ap (λ (l : List ℕ). take (length a) l) (drop-at front (a ++ tail) (20 + 2 * q .bands) length-front) ∙ take-at a tail (length a) refl))
+
+  pub same-addresses : addressesOf (headerFor q a ++ pad) ≡ a
+  unfolding addressesOf startOf extentOf frame
+  same-addresses = simp (bands, count, whole) same-part
 
   -- Next Ethertype stands where SSLength says
   next : (k : ℕ) → octetAt frame (14 + ssLengthFor q a + k) ≡ octetAt tail k
@@ -252,7 +256,7 @@ module _ (q : Request) (a : List ℕ) (room : ℕ) (d6 : length (q .destination)
     -- and reads as what was asked
     pub reads-back : readOf (headerFor q a ++ pad) ≡ asked q a
     unfolding readOf refusals accepted startOf extentOf frame
-    reads-back = first-accepts refusedBy (accepted frame) (refusals frame) refl nothing-refused ∙ simp (same-request, bands, count, whole)
+    reads-back = first-accepts refusedBy (accepted frame) (refusals frame) refl nothing-refused ∙ simp (same-request, count, whole)
 
 -- the frame that the writer makes, its padding of zeros included
 module _ (q : Request) (a : List ℕ) (room : ℕ) (d6 : length (q .destination) ≡ 6) (s6 : length (q .source) ≡ 6) (none : first (writerRefusals q a room) ≡ 0) where
@@ -271,6 +275,10 @@ module _ (q : Request) (a : List ℕ) (room : ℕ) (d6 : length (q .destination)
   pub frame-reads-back : readOf (frameFor q a) ≡ asked q a
   unfolding frameFor
   frame-reads-back = reads-back q a room d6 s6 none zeros at-least-60 at-most-1514
+
+  pub frame-part : partAt (frameFor q a) (20 + 2 * q .bands) (length a) ≡ a
+  unfolding frameFor
+  frame-part = same-part q a room d6 s6 none zeros
 
   pub frame-addresses : addressesOf (frameFor q a) ≡ a
   unfolding frameFor
@@ -294,3 +302,27 @@ module _ (q : Request) (a before after : List ℕ) (r : Written) (d6 : length (q
       rw (d .answer) (ap readOf frame ∙ (frame-reads-back q a (length before) d6 s6 (d .none) ∙ sym (first-accepts (λ n. refusedBy 10) (asked q a) (writerRefusals q a (length before)) refl (d .none)))))
       (λ (d : Refused q a before after r). rw (d .answer) (sym (first-refuses (λ n. refusedBy 10) (asked q a) (writerRefusals q a (length before)) refl (d .some))))
       (wrote-either q a before after r wrote)
+
+  pub written-addresses : partAt (take (r .count) after) (answered (λ n. refusedBy 10) (writerRefusals q a (length before)) (asked q a) .start) (answered (λ n. refusedBy 10) (writerRefusals q a (length before)) (asked q a) .extent)
+      ≡ answered (λ n. []) (writerRefusals q a (length before)) a
+  unfolding writerRefusals partAt within
+  written-addresses =
+      ⊎-elim
+      (λ (d : Accepted q a before after r).
+      let rows = writerRefusals q a (length before) in
+      let frame : take (length (frameFor q a)) after ≡ frameFor q a = rw (d .output) (take-at (frameFor q a) _ (length (frameFor q a)) refl) in
+      let same : answered (λ n. refusedBy 10) rows (asked q a) ≡ asked q a = first-accepts (λ n. refusedBy 10) (asked q a) rows refl (d .none) in
+      let all : answered (λ n. []) rows a ≡ a = first-accepts (λ n. []) a rows refl (d .none) in
+      rw (d .answer, frame, same, all) (frame-part q a (length before) d6 s6 (d .none)))
+      (λ (d : Refused q a before after r).
+      let rows = writerRefusals q a (length before) in
+      let same : answered (λ n. refusedBy 10) rows (asked q a) ≡ refusedBy 10 = first-refuses (λ n. refusedBy 10) (asked q a) rows refl (d .some) in
+      let none : answered (λ n. []) rows a ≡ [] = first-refuses (λ n. []) a rows refl (d .some) in
+      rw (d .answer, same, none) refl)
+      (wrote-either q a before after r wrote)
+
+  -- both together: the contract of a write that is then read
+  pub read-back : (reading : Reading) → reading ≡ readOf (take (r .count) after) → ReadBack q a before after (record { written = r; reading = reading })
+  read-back reading e =
+      let same = e ∙ written-reads-back in
+      record { written = wrote; reading = same; octets = rw same written-addresses }

@@ -1,7 +1,7 @@
 -- Laws of `over`, octets laid over a list from a place on, and the turn and the end of a loop that lays them one by one.
 -- Assumes nothing.
-use mathlib.Core.Path.{_≡_, refl, _∙_, sym, ap}
-use mathlib.Core.List.{List, [], _∷_, _++_, append-assoc}
+use mathlib.Core.Path.{_≡_, _∙_, sym, ap}
+use mathlib.Core.List.{List, _++_, append-assoc}
 use Prim.Native.Nat.{ℕ, _+_, _≤_, _<_}
 use native.Mathlib.Nat.{add-assoc, le-refl}
 use native.Mathlib.Omega.{arith}

@@ -1,5 +1,5 @@
--- What the answer of a field or of a check stands for: this paper's number, 0 where nothing is refused, and the values that come with it.
--- Document 01, 'Where to use each form': a definition gives number and values for each case of an enum.
+-- What the answer of a field or of a check stands for: document 01's number, 0 where nothing is refused, and the values that come with it.
+-- Document 01, 'Where to use each form': a definition gives number and values for each case of an enum that is an answer.
 use Prim.Native.Nat.{ℕ}
 use mathlib.Core.Bool.{Bool, cond}
 use mathlib.Core.List.{List, [], _∷_}

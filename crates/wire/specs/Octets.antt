@@ -36,3 +36,8 @@ allBelow (suc n) passes = allBelow n passes && passes n
 pub record OwnPart (whole : RefT (List ℕ)) (start count : ℕ) (part : RefT (List ℕ)) : Type 0 where
   pub octets : now part ≡ take count (drop start (now whole))
   pub place : part .ptr ≡ (whole .ptr .0, start + whole .ptr .1)
+
+-- such a part, or an empty one at the slice's start where it does not lie within the slice
+abbrev pub OwnPartOrNone : RefT (List ℕ) → ℕ → ℕ → RefT (List ℕ) → Type 0
+OwnPartOrNone whole start count part =
+    OwnPart whole (cond (within (now whole) start count) start 0) (cond (within (now whole) start count) count 0) part

@@ -13,11 +13,11 @@ pub use laying::lay;
 pub use short::ethertype_right;
 pub use short::next_ethertype_zero;
 ghost use mathlib.Core.Path.{_≡_};
-ghost use mathlib.Core.Bool.{cond, _&&_};
+ghost use mathlib.Core.Bool.{_&&_};
 ghost use Prim.Native.Nat.{_+_, _≤_};
 ghost use lib.ListN.{length};
 ghost use lib.Dec.{leb};
-ghost use Rattle.wire.specs.Octets.{octetAt, sixFrom, sixAt, within, OwnPart};
+ghost use Rattle.wire.specs.Octets.{octetAt, sixFrom, sixAt, OwnPartOrNone};
 
 // The octet at a place, or 0 past the end.
 pub fn octet(s: &[u8], at: usize) -> u8
@@ -63,7 +63,7 @@ fn six_there(s: &[u8], at: usize) -> [u8; 6]
 
 // The caller's own octets from a place on, or none of them where they do not lie within the slice.
 pub fn part(s: &[u8], start: usize, count: usize) -> &[u8]
-    ensures { λ r. ⌜ OwnPart (s .entry) (cond (within (now (s .entry)) start count) start 0) (cond (within (now (s .entry)) start count) count 0) r ⌝ }
+    ensures { λ r. ⌜ OwnPartOrNone (s .entry) start count r ⌝ }
 {
     if lies_within(s.len(), start, count) {
         let end = start + count;

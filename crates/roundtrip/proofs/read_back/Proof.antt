@@ -1,10 +1,10 @@
 -- `roundtrip::read_back` meets its contract: what `write` ensures of the output, `read` reads.
-use mathlib.Core.Path.{_≡_, sym, _∙_}
+use mathlib.Core.Path.{_≡_, sym}
 use Prim.Native.Nat.{_≤_}
 use denote.Ref.{now}
 use lib.ListN.{length}
 use lib.Seq.{length-take-le}
-use Rattle.roundtrip.proofs.Back.{count-within, written-reads-back}
+use Rattle.roundtrip.proofs.Back.{count-within, read-back}
 use borrow.Author.Needs.{needs}
 use Rattle.roundtrip.proofs.read_back.Statement.{statement}
 use Rattle.roundtrip.proofs.read_back.Tie as tie
@@ -38,11 +38,9 @@ same-length c = search needs
 returns : tie.Need-returns
 returns c =
     let after = c .before .before .before .before in
-    let a = after .before .before .before .before .args in
-    record {
-      written = after .write .ensures;
-      reading = c .read .ensures ∙ written-reads-back (a .request) (now (a .addresses)) (now (a .out)) (after .write .last .0) (after .write .result) (six-destination (after .before .before .before .before)) (six-source (after .before .before .before .before)) (after .write .ensures);
-    }
+    let st = after .before .before .before .before in
+    read-back (st .args .request) (now (st .args .addresses)) (now (st .args .out)) (after .write .last .0) (after .write .result) (six-destination st) (six-source st) (after .write .ensures)
+    (c .read .result) (c .read .ensures)
 
 pub read-back-spec : {M : Type 1} → statement M
 read-back-spec =

@@ -1,13 +1,10 @@
 -- `rate::fields::of_band_two` meets its contract: the test of NumBands decides.
-use Prim.Native.Nat.{ℕ, _≤_, _<_}
-use mathlib.Core.Path.{_≡_, sym}
+use mathlib.Core.Path.{_≡_}
 use mathlib.Core.Bool.{true, false}
 use lib.Dec.{leb}
 use borrow.Author.Tests.{le-leb, lt-leb}
 use denote.Ref.{now}
 use Rattle.rate.specs.Reading.{ofBandTwo, bandsOf}
-use mathlib.Core.Path.{_≡_, refl, sym, _∙_, ap}
-use Rattle.rate.specs.Reading.{ofBandTwo}
 use borrow.Author.Needs.{needs}
 use Rattle.rate.proofs.fields.of_band_two.Statement.{statement}
 use Rattle.rate.proofs.fields.of_band_two.Tie as tie

@@ -1,5 +1,5 @@
 -- `rate::fields::ranks` meets its contract: the two ranks read, and the rule's test of them.
-use mathlib.Core.Path.{_≡_, sym, _∙_}
+use mathlib.Core.Path.{_≡_}
 use mathlib.Core.Bool.{true, false}
 use denote.Ref.{now}
 use Rattle.wire.specs.Octets.{octetAt}

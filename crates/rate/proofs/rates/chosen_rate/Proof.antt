@@ -5,7 +5,7 @@ use mathlib.Core.Option.{Option, some}
 use Prim.Native.Nat.{ℕ}
 use lib.Dec.{eqb}
 use borrow.Author.Tests.{eq-eqb, ne-eqb}
-use Rattle.rate.specs.Rates.{chosenOf, bandOf, rateOfBand, rateOf}
+use Rattle.rate.specs.Rates.{chosenOf, bandOf, rateOfBand}
 use borrow.Author.Needs.{needs}
 use Rattle.rate.proofs.rates.chosen_rate.Statement.{statement}
 use Rattle.rate.proofs.rates.chosen_rate.Tie as tie

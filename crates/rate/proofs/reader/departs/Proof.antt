@@ -1,6 +1,6 @@
 -- `rate::reader::departs` meets its contract: at each place of the chain the tests so far have passed, and an answer that is Wrong gives the number
 -- of its own row.
-use mathlib.Core.Path.{_≡_, refl, sym}
+use mathlib.Core.Path.{refl, sym}
 use mathlib.Core.List.{List}
 use Prim.Native.Nat.{ℕ}
 use denote.Ref.{now}

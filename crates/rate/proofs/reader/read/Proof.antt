@@ -1,5 +1,5 @@
 -- `rate::read` meets its contract: 10 to 14 are asked first, and then the rest of the same list.
-use mathlib.Core.Path.{_≡_, refl, sym, _∙_}
+use mathlib.Core.Path.{refl, sym, _∙_}
 use denote.Ref.{now}
 use lib.ListN.{take, drop}
 use Rattle.wire.specs.Refusals.{answered}

@@ -2,7 +2,7 @@
 -- return. A `&[u8]` is Copy, so what it owns is had again for each call, and once more for the exit. Of the two callees the proof knows that each meets its
 -- contract; that the part lies within the frame is `reading-within`.
 use mathlib.Core.Path.{_≡_, refl}
-use mathlib.Core.Bool.{Bool, true, false, cond, _&&_}
+use mathlib.Core.Bool.{Bool, true, false, _&&_}
 use Prim.Native.Nat.{ℕ, _+_, _≤_}
 use mathlib.Core.List.{List, [], _∷_}
 use lib.Dec.{T as Holds}
@@ -39,11 +39,10 @@ use denote.Triple.Table.{entered, cited}
 use denote.Triple.Walked.{says, Stays, stay-none-slice, walkOf, goes-none-slice, Walks, ends-at, walked, walk-meets}
 use denote.Exit.{yes}
 use denote.Triple.Clauses.{ensured, lasts}
-use Rattle.wire.specs.Octets.{within, OwnPart}
+use Rattle.wire.specs.Octets.{OwnPartOrNone}
 use Rattle.wire.proofs.Parts.{own-within}
 use Rattle.rate.specs.Reading.{readOf}
 use Rattle.rate.specs.Receiving.{Receives}
-use Rattle.rate.specs.declared.reader.Received.{Received}
 use Rattle.rate.specs.declared.Reading.{Reading}
 use Rattle.rate.proofs.Accepted.{reading-within}
 use Rattle.rate.proofs.reader.Received as T
@@ -64,7 +63,7 @@ use Rattle.rate.proofs.reader.receive.Code as code
 
 -- what `held` ensures of the part that it hands back
 abbrev HeldPart : RefT (List ℕ) → Reading → RefT (List ℕ) → Type 0
-HeldPart s r t = OwnPart s (cond (within (now s) (r .start) (r .extent)) (r .start) 0) (cond (within (now s) (r .start) (r .extent)) (r .extent) 0) t
+HeldPart s r t = OwnPartOrNone s (r .start) (r .extent) t
 
 -- what the two callees ensure is what is received
 receives : (s : RefT (List ℕ)) (r : Reading) (t : RefT (List ℕ)) → r ≡ readOf (now s) → HeldPart s r t → Receives s (record { reading = r; addresses = t })
@@ -79,9 +78,9 @@ stayed = (stay-none-slice (0 ∷ []) tt (plain (λ _. u8)) yes, tt)
 abbrev slice : Ty
 slice = sliceTy (tyRef (named 0) imm (tyInt w8))
 
-both : (a b : Bool) → Holds a → Holds b → Holds (a && b)
-both true b p q = q
-both false b p q = p
+and-holds : (a b : Bool) → Holds a → Holds b → Holds (a && b)
+and-holds true b p q = q
+and-holds false b p q = p
 
 module _ {M : Type 1} (𝓤 : URA M) (H : Heap 𝓤) (A : Atoms 𝓤) (mem : Memory → SProp 𝓤) (run : Routine → Fun 𝓤) where
   -- the contracts that the proof cites
@@ -188,7 +187,7 @@ module _ {M : Type 1} (𝓤 : URA M) (H : Heap 𝓤) (A : Atoms 𝓤) (W : Given
         land ! (from ! (stop !)) (init ! 4 refl (shr-slice-lawful 𝓤 H A W erased κ u8 .typed t (u′ ∷ []) is′ .0)) $
         assigns ! (agg ! (and-then ! (load ! (from ! (stop !)) (look ! 6 refl)) (and-then ! (load ! (from ! (stop !)) (look ! 4 refl)) (no-more !)))) (from ! (stop !))
         (init ! 10 refl (
-          both (hasTy F′.mir u) (hasTy slice u′ && true) (LL.lawful F.the-type F′.the-laws 𝓤 H A W .typed r _ is .0 .0) (both (hasTy slice u′) true (shr-slice-lawful 𝓤 H A W (named 0) κ u8 .typed t (u′ ∷ []) is′ .0 .0) tt),
+          and-holds (hasTy F′.mir u) (hasTy slice u′ && true) (LL.lawful F.the-type F′.the-laws 𝓤 H A W .typed r _ is .0 .0) (and-holds (hasTy slice u′) true (shr-slice-lawful 𝓤 H A W (named 0) κ u8 .typed t (u′ ∷ []) is′ .0 .0) tt),
           (LL.lawful F.the-type F′.the-laws 𝓤 H A W .typed r _ is .0 .1, (shr-slice-lawful 𝓤 H A W (named 0) κ u8 .typed t (u′ ∷ []) is′ .0 .1, tt)),
         )) $
         returns ! (look ! 10 refl) $ forget ! 4 refl $ forget ! 6 refl $ forget ! 8 refl $ forget ! 10 refl $

@@ -2,20 +2,20 @@
 -- an answer that is Wrong gives the refusal of its own row.
 use mathlib.Core.Path.{_≡_, refl, sym, _∙_, ap}
 use mathlib.Core.Bool.{true}
-use mathlib.Core.List.{List, [], _∷_}
-use Prim.Native.Nat.{ℕ, _+_, _*_}
+use mathlib.Core.List.{List, []}
+use Prim.Native.Nat.{ℕ}
 use denote.Ref.{now}
 use lib.Dec.{lit<}
 use lib.ListN.{drop}
 use borrow.Author.Needs.{needs}
-use Rattle.wire.specs.Octets.{octetAt, partAt}
+use Rattle.wire.specs.Octets.{partAt}
 use Rattle.wire.specs.Refusals.{Refusal, _else_}
 use Rattle.wire.specs.Answers.{ruled, checkSays}
 use Rattle.wire.specs.ShortFormat.{nextEthertypeZero}
 use Rattle.wire.proofs.Answered as answers
 use Rattle.wire.proofs.Ruled.{check-passes, check-fails, field-passes, field-fails, two-pass, two-fail}
 use Rattle.rate.specs.Request.{opcodeRight, someBand, bandOneRight, bandTwoRight, ranksRight, groupAddresses}
-use Rattle.rate.specs.Reading.{opcodeOf, bandsOf, countOf, ofBandTwo, startOf, extentOf, addressesOf, requestOf, lengthsAgree, refusals, refusedBy, accepted, pairSays}
+use Rattle.rate.specs.Reading.{opcodeOf, bandsOf, countOf, pe1Of, rank1Of, pe2Of, rank2Of, startFor, extentFor, startOf, extentOf, addressesOf, lengthsAgree, refusals, refusedBy, accepted, pairSays}
 use Rattle.rate.proofs.Accepted.{accepted-fields}
 use Rattle.rate.proofs.reader.request.Statement.{statement}
 use Rattle.rate.proofs.reader.request.Tie as tie
@@ -62,8 +62,8 @@ past-addresses c = answers.passes refusedBy (accepted (frame-addresses c)) (rows
 abbrev frame-band-one : tie.After-known-told4 → List ℕ
 frame-band-one c = frame-addresses (c .before .before .before .before)
 
-read-band-one : (c : tie.After-known-told4) → (bandOneRight (octetAt (frame-band-one c) 20) ≡ true) × (c .before .pe1 .given .0 .0 ≡ octetAt (frame-band-one c) 20)
-read-band-one c = field-passes 18 tt (bandOneRight (octetAt (frame-band-one c) 20)) (octetAt (frame-band-one c) 20) (c .before .before .before .band-one .ensures) (c .before .pe1 .given .1)
+read-band-one : (c : tie.After-known-told4) → (bandOneRight (pe1Of (frame-band-one c)) ≡ true) × (c .before .pe1 .given .0 .0 ≡ pe1Of (frame-band-one c))
+read-band-one c = field-passes 18 tt (bandOneRight (pe1Of (frame-band-one c))) (pe1Of (frame-band-one c)) (c .before .before .before .band-one .ensures) (c .before .pe1 .given .1)
 
 past-band-one : (c : tie.After-known-told4) → Past (frame-band-one c) 4
 unfolding refusals
@@ -72,8 +72,8 @@ past-band-one c = answers.passes refusedBy (accepted (frame-band-one c)) (rows (
 abbrev frame-band-two : tie.After-known-told5 → List ℕ
 frame-band-two c = frame-band-one (c .before .before .before .before)
 
-read-band-two : (c : tie.After-known-told5) → (bandTwoRight (bandsOf (frame-band-two c)) (ofBandTwo (frame-band-two c) 22) ≡ true) × (c .before .pe2 .given .0 .0 ≡ ofBandTwo (frame-band-two c) 22)
-read-band-two c = field-passes 19 tt (bandTwoRight (bandsOf (frame-band-two c)) (ofBandTwo (frame-band-two c) 22)) (ofBandTwo (frame-band-two c) 22) (c .before .before .before .band-two .ensures) (c .before .pe2 .given .1)
+read-band-two : (c : tie.After-known-told5) → (bandTwoRight (bandsOf (frame-band-two c)) (pe2Of (frame-band-two c)) ≡ true) × (c .before .pe2 .given .0 .0 ≡ pe2Of (frame-band-two c))
+read-band-two c = field-passes 19 tt (bandTwoRight (bandsOf (frame-band-two c)) (pe2Of (frame-band-two c))) (pe2Of (frame-band-two c)) (c .before .before .before .band-two .ensures) (c .before .pe2 .given .1)
 
 past-band-two : (c : tie.After-known-told5) → Past (frame-band-two c) 5
 unfolding refusals
@@ -82,33 +82,26 @@ past-band-two c = answers.passes refusedBy (accepted (frame-band-two c)) (rows (
 abbrev frame-ranks : tie.After-known-told6 → List ℕ
 frame-ranks c = frame-band-two (c .before .before .before .before)
 
-read-ranks : (c : tie.After-known-told6) → (ranksRight (bandsOf (frame-ranks c)) (octetAt (frame-ranks c) 21) (ofBandTwo (frame-ranks c) 23) ≡ true) × ((c .before .rank1 .given .0 .0 ≡ octetAt (frame-ranks c) 21) × (c .before .rank1 .given .0 .1 .0 ≡ ofBandTwo (frame-ranks c) 23))
-read-ranks c = two-pass 20 tt (ranksRight (bandsOf (frame-ranks c)) (octetAt (frame-ranks c) 21) (ofBandTwo (frame-ranks c) 23)) (octetAt (frame-ranks c) 21) (ofBandTwo (frame-ranks c) 23) (c .before .before .before .ranks .ensures) (ap (pairSays 20) (c .before .rank1 .given .1))
+read-ranks : (c : tie.After-known-told6) → (ranksRight (bandsOf (frame-ranks c)) (rank1Of (frame-ranks c)) (rank2Of (frame-ranks c)) ≡ true) × ((c .before .rank1 .given .0 .0 ≡ rank1Of (frame-ranks c)) × (c .before .rank1 .given .0 .1 .0 ≡ rank2Of (frame-ranks c)))
+read-ranks c = two-pass 20 tt (ranksRight (bandsOf (frame-ranks c)) (rank1Of (frame-ranks c)) (rank2Of (frame-ranks c))) (rank1Of (frame-ranks c)) (rank2Of (frame-ranks c)) (c .before .before .before .ranks .ensures) (ap (pairSays 20) (c .before .rank1 .given .1))
 
 past-ranks : (c : tie.After-known-told6) → Past (frame-ranks c) 6
 unfolding refusals
 past-ranks c = answers.passes refusedBy (accepted (frame-ranks c)) (rows (frame-ranks c)) 5 (lit< tt) (past-band-two (c .before .before .before .before)) (read-ranks c .0)
 
--- the place and the extent of the addresses, from the counts that were read
-start-is : (c : tie.After-extent) → c .before .start .result ≡ startOf (frame-ranks (c .before .before))
-unfolding startOf
-start-is c =
-    let bands = c .before .before .before .before .before .before .before .before .before .before .before .before .before .before .before .before .before .before in
-    c .before .start .ensures ∙ ap (λ (n : ℕ). 20 + 2 * n) (read-bands bands .1)
-
-extent-is : (c : tie.After-extent) → c .extent .result ≡ extentOf (frame-ranks (c .before .before))
-unfolding extentOf
-extent-is c =
-    let addresses = c .before .before .before .before .before .before .before .before .before .before .before .before .before .before in
-    c .extent .ensures ∙ ap (λ (n : ℕ). 6 * n) (read-addresses addresses .1)
-
+-- the addresses lie where the counts that were read say
 group-said : (c : tie.After-groups) → checkSays 21 (c .groups .result) ≡ ruled (groupAddresses (addressesOf (frame-ranks (c .before .before .before))) else 21) []
-unfolding addressesOf
+unfolding addressesOf startOf extentOf
 group-said c =
-    let s = frame-ranks (c .before .before .before) in
+    let ranks = c .before .before .before in
+    let s = frame-ranks ranks in
+    let addresses = ranks .before .before .before .before .before .before .before .before .before .before .before .before in
+    let bands = addresses .before .before .before .before in
+    let start : c .before .before .start .result ≡ startFor (bandsOf s) = c .before .before .start .ensures ∙ ap startFor (read-bands bands .1) in
+    let extent : c .before .extent .result ≡ extentFor (countOf s) = c .before .extent .ensures ∙ ap extentFor (read-addresses addresses .1) in
     c .groups .ensures
-    ∙ (ap (λ (n : ℕ). ruled (groupAddresses (partAt s n (c .before .extent .result)) else 21) []) (start-is (c .before))
-    ∙ ap (λ (n : ℕ). ruled (groupAddresses (partAt s (startOf s) n) else 21) []) (extent-is (c .before)))
+    ∙ (ap (λ (n : ℕ). ruled (groupAddresses (partAt s n (c .before .extent .result)) else 21) []) start
+    ∙ ap (λ (n : ℕ). ruled (groupAddresses (partAt s (startFor (bandsOf s)) n) else 21) []) extent)
 
 abbrev frame-groups : tie.After-enum-told7 → List ℕ
 frame-groups c = frame-ranks (c .before .before .before .before .before)
@@ -194,7 +187,7 @@ returns-4 : tie.Need-returns-4
 unfolding refusals
 returns-4 c =
     let s = frame-addresses (c .before .before .before .before) in
-    c .refused4 .ensures ∙ sym (answers.fails refusedBy (accepted s) (rows s) 3 (lit< tt) (past-addresses (c .before .before .before .before)) (field-fails 18 tt (bandOneRight (octetAt s 20)) (octetAt s 20) (c .before .before .before .band-one .ensures) (c .before .enum-told4 .given .1)))
+    c .refused4 .ensures ∙ sym (answers.fails refusedBy (accepted s) (rows s) 3 (lit< tt) (past-addresses (c .before .before .before .before)) (field-fails 18 tt (bandOneRight (pe1Of s)) (pe1Of s) (c .before .before .before .band-one .ensures) (c .before .enum-told4 .given .1)))
 
 band-two-requires : tie.Need-band-two-requires
 band-two-requires c κs = search needs
@@ -212,7 +205,7 @@ returns-5 : tie.Need-returns-5
 unfolding refusals
 returns-5 c =
     let s = frame-band-one (c .before .before .before .before) in
-    c .refused5 .ensures ∙ sym (answers.fails refusedBy (accepted s) (rows s) 4 (lit< tt) (past-band-one (c .before .before .before .before)) (field-fails 19 tt (bandTwoRight (bandsOf s) (ofBandTwo s 22)) (ofBandTwo s 22) (c .before .before .before .band-two .ensures) (c .before .enum-told5 .given .1)))
+    c .refused5 .ensures ∙ sym (answers.fails refusedBy (accepted s) (rows s) 4 (lit< tt) (past-band-one (c .before .before .before .before)) (field-fails 19 tt (bandTwoRight (bandsOf s) (pe2Of s)) (pe2Of s) (c .before .before .before .band-two .ensures) (c .before .enum-told5 .given .1)))
 
 ranks-requires : tie.Need-ranks-requires
 ranks-requires c κs = search needs
@@ -230,7 +223,7 @@ returns-6 : tie.Need-returns-6
 unfolding refusals
 returns-6 c =
     let s = frame-band-two (c .before .before .before .before) in
-    c .refused6 .ensures ∙ sym (answers.fails refusedBy (accepted s) (rows s) 5 (lit< tt) (past-band-two (c .before .before .before .before)) (two-fail 20 tt (ranksRight (bandsOf s) (octetAt s 21) (ofBandTwo s 23)) (octetAt s 21) (ofBandTwo s 23) (c .before .before .before .ranks .ensures) (ap (pairSays 20) (c .before .enum-told6 .given .1))))
+    c .refused6 .ensures ∙ sym (answers.fails refusedBy (accepted s) (rows s) 5 (lit< tt) (past-band-two (c .before .before .before .before)) (two-fail 20 tt (ranksRight (bandsOf s) (rank1Of s) (rank2Of s)) (rank1Of s) (rank2Of s) (c .before .before .before .ranks .ensures) (ap (pairSays 20) (c .before .enum-told6 .given .1))))
 
 start-requires : tie.Need-start-requires
 start-requires c κs = search needs
@@ -274,26 +267,22 @@ returns-8 c =
     let s = frame-groups (c .before .before .before .before) in
     c .refused8 .ensures ∙ sym (answers.fails refusedBy (accepted s) (rows s) 7 (lit< tt) (past-groups (c .before .before .before .before)) (check-fails 22 tt (nextEthertypeZero s) (c .before .before .before .next-ethertype .ensures) (c .before .enum-told10 .given .1)))
 
-six-requires : tie.Need-six-requires
-six-requires c κs = search needs
-
-six-requires-2 : tie.Need-six-requires-2
-six-requires-2 c κs = search needs
+given-requires : tie.Need-given-requires
+given-requires c κs = search needs
 
 returns-9 : tie.Need-returns-9
 unfolding refusals
 returns-9 c =
-    let all = c .before .before in
-    let placed = all .before .before .before .before .before .before in
-    let ranks = placed .before .before in
+    let all = c .before in
+    let ranks = all .before .before .before .before .before .before .before .before in
     let two = ranks .before .before .before .before in
     let one = two .before .before .before .before in
     let addresses = one .before .before .before .before in
     let bands = addresses .before .before .before .before in
     let opcode = bands .before .before .before .before in
-    accepted-fields (frame-next-ethertype all) (c .before .six .ensures) (c .six2 .ensures) (read-opcode opcode .1) (read-bands bands .1)
-    (read-band-one one .1) (read-ranks ranks .1 .0) (read-band-two two .1) (read-ranks ranks .1 .1) (read-addresses addresses .1) (start-is placed) (extent-is placed)
-    ∙ sym (past-next-ethertype all)
+    c .given .ensures
+    ∙ (accepted-fields (frame-next-ethertype all) (read-opcode opcode .1) (read-bands bands .1) (read-band-one one .1) (read-ranks ranks .1 .0) (read-band-two two .1) (read-ranks ranks .1 .1) (read-addresses addresses .1)
+    ∙ sym (past-next-ethertype all))
 
 pub request-spec : {M : Type 1} → statement M
 request-spec =
@@ -341,6 +330,5 @@ request-spec =
     enum-told-10
     refused-requires-8
     returns-8
-    six-requires
-    six-requires-2
+    given-requires
     returns-9)

@@ -1,7 +1,7 @@
 -- `rate::rules::group_addresses` meets its contract. The loop's invariant: every address passed so far is a group address.
 use Prim.Native.Nat.{ℕ, _≤_, _-_, _*_, _/_, _%_}
-use mathlib.Core.Path.{_≡_, sym, _∙_}
-use mathlib.Core.Bool.{Bool, true, false}
+use mathlib.Core.Path.{_≡_, sym}
+use mathlib.Core.Bool.{Bool, true}
 use mathlib.Core.List.{List}
 use native.Mathlib.Omega.{arith}
 use borrow.Author.Needs.{needs}

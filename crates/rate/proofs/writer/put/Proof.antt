@@ -1,12 +1,11 @@
 -- `rate::writer::put` meets its contract: six runs are laid one behind the other, and they are the frame's parts in order.
-use mathlib.Core.Path.{_≡_, refl, sym, _∙_, ap}
-use mathlib.Core.List.{List}
-use Prim.Native.Nat.{ℕ, _+_, _*_, _-_, _≤_}
+use mathlib.Core.Path.{_≡_, ap}
+use Prim.Native.Nat.{ℕ, _-_}
 use native.Mathlib.Omega.{arith}
 use denote.Ref.{now}
 use lib.ListN.{length}
 use Rattle.wire.proofs.Laid.{Laid}
-use Rattle.rate.specs.Writing.{ssLengthFor, fixedPart, frameFor}
+use Rattle.rate.specs.Writing.{ssLengthFor, fixedPart}
 use Rattle.rate.proofs.Frame.{length-frame, laidPart, length-laid, laid-header, laid-all}
 use borrow.Author.Needs.{needs}
 use Rattle.rate.proofs.writer.put.Statement.{statement}

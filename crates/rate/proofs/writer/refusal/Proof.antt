@@ -1,8 +1,6 @@
 -- `rate::writer::refusal` meets its contract: at each place of the chain the tests so far have passed, and one that fails gives the number of its row.
-use mathlib.Core.Path.{_≡_, refl, sym, _∙_}
-use mathlib.Core.Bool.{true, false}
+use mathlib.Core.Path.{refl, sym, _∙_}
 use mathlib.Core.List.{List}
-use Prim.Native.Nat.{ℕ, _≤_}
 use denote.Ref.{now}
 use lib.Dec.{lit<}
 use lib.ListN.{length}
@@ -10,7 +8,7 @@ use borrow.Author.Needs.{needs}
 use borrow.Author.Tests.{le-leb, lt-leb, not-true, not-false}
 use Rattle.wire.specs.Refusals.{Refusal}
 use Rattle.wire.proofs.First.{Past, passes, fails}
-use Rattle.rate.specs.Writing.{writerRefusals, outputHolds, layoutHolds, frameFor}
+use Rattle.rate.specs.Writing.{writerRefusals, outputHolds, frameFor}
 use Rattle.rate.proofs.Writable.{layout}
 use Rattle.rate.proofs.writer.refusal.Statement.{statement}
 use Rattle.rate.proofs.writer.refusal.Tie as tie

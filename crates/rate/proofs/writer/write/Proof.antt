@@ -1,7 +1,6 @@
 -- `rate::write` meets its contract: refused, the output is untouched; else it holds the frame.
 use mathlib.Core.Path.{sym, _∙_}
 use denote.Ref.{now}
-use lib.ListN.{length}
 use Rattle.rate.proofs.Writable.{layable, wrote-nothing, wrote-frame}
 use borrow.Author.Needs.{needs}
 use Rattle.rate.proofs.writer.write.Statement.{statement}
