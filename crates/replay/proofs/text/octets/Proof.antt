@@ -1,0 +1,64 @@
+-- `replay::octets` is safe and ends: the octets that are left fall with each turn.
+use Prim.Native.Nat.{_-_}
+use mathlib.Core.Path.{_≡_}
+use lib.ListN.{length}
+use borrow.Author.Needs.{needs}
+use Rattle.replay.proofs.text.octets.Statement.{statement}
+use Rattle.replay.proofs.text.octets.Tie as tie
+
+abbrev Inv-loop : tie.InvT-loop
+Inv-loop line₀ start name all at₀ i₀ i-end line at i = i-end ≡ length all
+
+abbrev μ-loop : tie.MeasureT-loop
+μ-loop line₀ start name all at₀ i₀ i-end line at i = i-end - i
+
+word-requires : tie.Need-word-requires Inv-loop μ-loop
+word-requires c κs = search needs
+
+slice-aggregate-word : tie.Need-slice-aggregate-word Inv-loop μ-loop
+slice-aggregate-word c = search needs
+
+word-requires-2 : tie.Need-word-requires-2 Inv-loop μ-loop
+word-requires-2 c κs = search needs
+
+returns : tie.Need-returns Inv-loop μ-loop
+returns c = search needs
+
+loop-holds : tie.Need-loop-holds Inv-loop μ-loop
+loop-holds c = search needs
+
+shared-slice-read-octet : tie.Need-shared-slice-read-octet Inv-loop μ-loop
+shared-slice-read-octet c = search needs
+
+octet-requires : tie.Need-octet-requires Inv-loop μ-loop
+octet-requires c κs = search needs
+
+add-i : tie.Need-add-i Inv-loop μ-loop
+add-i c = search needs
+
+loop-less : tie.Need-loop-less Inv-loop μ-loop
+loop-less c = search needs
+
+loop-again : tie.Need-loop-again Inv-loop μ-loop
+loop-again c = search needs
+
+returns-2 : tie.Need-returns-2 Inv-loop μ-loop
+returns-2 c = search needs
+
+pub octets-spec : {M : Type 1} → statement M
+octets-spec =
+    tie.close
+    (tie.spec
+    Inv-loop
+    μ-loop
+    word-requires
+    slice-aggregate-word
+    word-requires-2
+    returns
+    loop-holds
+    shared-slice-read-octet
+    octet-requires
+    add-i
+    loop-less
+    loop-again
+    returns-2)
