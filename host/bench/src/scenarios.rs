@@ -1,0 +1,241 @@
+//! What is measured: for each scenario the tables at its start and the calls, or the frames.
+
+use peer::lent::Lent;
+use peer::receiver::{Act, Buffers, ChannelEvent};
+use peer::record::{Cell, Record};
+use peer::table::{Key, Owner};
+use pikurandal::raw::{Frame, Request, Station};
+
+/// A scenario of channel events. Before each pass the tables are put back to `start`.
+pub struct Events {
+    /// What happens.
+    pub name: &'static str,
+    /// The tables at the start of a pass.
+    pub start: Vec<Lent>,
+    /// The calls of a pass, each on one of the tables.
+    pub calls: Vec<(usize, ChannelEvent)>,
+    /// The lengths of the answer buffers.
+    pub buffers: Buffers,
+}
+
+/// A scenario of one call, made again and again.
+pub enum Single {
+    /// A frame to read.
+    Read(Vec<u8>),
+    /// A request to write, with its addresses.
+    Write(Request, Vec<u8>),
+    /// A capability frame to receive.
+    Receive(Station, u8, Frame),
+}
+
+/// How many events a pass has where the channel stays as it is from event to event.
+const LONG: u64 = 2_048;
+
+/// How many tables a pass has where each serves one event.
+const TABLES: usize = 32;
+
+/// The key of the channel at a place.
+fn key(place: usize) -> Key {
+    Key {
+        destination: [2, 0, 0, 0, 0, 1],
+        source: [2, 0, 0, 0, 1, place as u8],
+        priority: (place % 8) as u8,
+    }
+}
+
+fn quiet(current: u64) -> Record {
+    Record::opened(current, 1_000)
+}
+
+/// A full window: the oldest is missing, the 31 after it wait.
+fn full(current: u64) -> Record {
+    let waiting = (0..31).map(Cell::Waits);
+    Record {
+        current,
+        oldest: current - 31,
+        latest: 1_000,
+        cells: [Cell::Missing(900)].into_iter().chain(waiting).collect(),
+    }
+}
+
+/// A window of 32 missing numbers.
+fn starved(current: u64) -> Record {
+    Record {
+        cells: vec![Cell::Missing(900); 32],
+        ..full(current)
+    }
+}
+
+/// A table with channels open at its first places, all with this record.
+fn table(open: usize, record: &Record) -> Lent {
+    let mut lent = Lent::empty();
+    for place in 0..open {
+        lent.put(place, &Owner::Channel(key(place)), record);
+    }
+    lent
+}
+
+fn at(place: usize, time: u64, act: Act) -> ChannelEvent {
+    ChannelEvent {
+        key: key(place),
+        time,
+        act,
+    }
+}
+
+/// Events one after the other on one table, whose channels are quiet at the start.
+fn running(name: &'static str, open: usize, event: impl Fn(u64) -> ChannelEvent) -> Events {
+    Events {
+        name,
+        start: vec![table(open, &quiet(10))],
+        calls: (0..LONG).map(|index| (0, event(index))).collect(),
+        buffers: Buffers::ENOUGH,
+    }
+}
+
+/// One event on each of several tables that are alike.
+fn each(name: &'static str, start: Lent, event: ChannelEvent) -> Events {
+    Events {
+        name,
+        start: vec![start; TABLES],
+        calls: (0..TABLES).map(|table| (table, event)).collect(),
+        buffers: Buffers::ENOUGH,
+    }
+}
+
+/// Data with the number at so many steps from 10.
+fn data(place: usize, time: u64, steps: u64) -> ChannelEvent {
+    at(place, time, Act::Data(((10 + steps) % 4_096) as u16, steps as u32))
+}
+
+/// In blocks of 16 the last comes first, then the others from the last to the first.
+fn reversed(index: u64) -> ChannelEvent {
+    let (block, step) = (index / 16, index % 16);
+    data(0, 1_000 + index, 16 * block + 16 - step)
+}
+
+/// Two events: a frame too early by one, and the one that was missing.
+fn gap_and_fill(index: u64) -> ChannelEvent {
+    let steps = if index % 2 == 0 { index + 2 } else { index };
+    data(0, 1_000 + index, steps)
+}
+
+/// The scenarios of channel events.
+pub fn events() -> Vec<Events> {
+    let in_order = |place| move |index| data(place, 1_000 + index, index + 1);
+    let tick_at = |place| move |index| at(place, 1_000 + index, Act::Tick);
+    let mut scenarios = vec![
+        running("in order, place 0", 1, in_order(0)),
+        running("in order, place 63", 64, in_order(63)),
+        running("gap and fill", 1, gap_and_fill),
+        running("fills in reverse, blocks of 16", 1, reversed),
+        running("jump of 64", 1, |index| data(0, 1_000 + index, 64 * (index + 1))),
+        each(
+            "jump of 64, 31 wait",
+            table(1, &full(100)),
+            at(0, 1_000, Act::Data(164, 7)),
+        ),
+        each(
+            "jump of 32, 31 wait",
+            table(1, &full(100)),
+            at(0, 1_000, Act::Data(132, 7)),
+        ),
+        each(
+            "the oldest fills, 32 go up",
+            table(1, &full(100)),
+            at(0, 1_000, Act::Data(69, 7)),
+        ),
+        each(
+            "copy of a waiting frame",
+            table(1, &full(100)),
+            at(0, 1_000, Act::Data(100, 7)),
+        ),
+        running("restart", 1, |index| data(0, 1_000 + index, 2_000 * (index + 1))),
+        each(
+            "restart, 31 wait",
+            table(1, &full(100)),
+            at(0, 1_000, Act::Data(2_100, 7)),
+        ),
+        each("opening, place 0", Lent::empty(), at(0, 1_000, Act::Data(10, 7))),
+        each(
+            "opening, place 63",
+            table(63, &quiet(10)),
+            at(63, 1_000, Act::Data(10, 7)),
+        ),
+        running("reminder of the current number", 1, |index| {
+            at(0, 1_000 + index, Act::Reminder(10))
+        }),
+        each(
+            "reminder of 32 more",
+            table(1, &quiet(100)),
+            at(0, 1_000, Act::Reminder(132)),
+        ),
+        each(
+            "tick, full window, none overdue",
+            table(1, &full(100)),
+            at(0, 1_000, Act::Tick),
+        ),
+        each("tick, 1 lost, 31 go up", table(1, &full(100)), at(0, 1_100, Act::Tick)),
+        each("tick, 32 lost", table(1, &starved(100)), at(0, 1_100, Act::Tick)),
+        each("close", table(1, &quiet(100)), at(0, 1_000, Act::Close)),
+        each("close, 31 wait", table(1, &full(100)), at(0, 1_000, Act::Close)),
+        running("refused by 2", 1, |index| at(0, 1_000 + index, Act::Data(4_096, 7))),
+        running("refused by 7", 1, |_| at(0, 999, Act::Data(11, 7))),
+        running("lookup, place 0", 64, tick_at(0)),
+        running("lookup, place 31", 64, tick_at(31)),
+        running("lookup, place 63", 64, tick_at(63)),
+        running("lookup, absent", 64, tick_at(64)),
+    ];
+    let mut short = running("refused by 1", 1, in_order(0));
+    short.buffers.nack = 31;
+    scenarios.push(short);
+    scenarios
+}
+
+/// A request with one or two bands.
+fn request(bands: u8) -> Request {
+    let two = bands == 2;
+    Request {
+        destination: [2, 0, 0, 0, 0, 1],
+        source: [2, 0, 0, 0, 0, 2],
+        opcode: 1,
+        bands,
+        pe1: 4,
+        rank1: 1,
+        pe2: if two { 12 } else { 0 },
+        rank2: if two { 2 } else { 0 },
+    }
+}
+
+/// The scenarios of frames.
+pub fn singles() -> Vec<(&'static str, Single)> {
+    let forty = [3, 0, 0, 0, 0, 9].repeat(40);
+    let frame = |bands, addresses: &[u8]| {
+        let mut out = [0; 300];
+        let count = pikurandal::rate::write(&mut out, &request(bands), addresses);
+        out[..count.unwrap_or(0)].to_vec()
+    };
+    let mut refused = frame(2, &forty);
+    refused[264] = 1;
+    let station = Station {
+        default_set: 0x0f,
+        new_tx: 0x1f,
+        previous_tx: 0x2f,
+        oldest_tx: 0x4f,
+        new_rx: 0x0103,
+        previous_rx: 0x0203,
+    };
+    let heard = Frame {
+        oldest_tx: 0x0111,
+        current_tx: 0x1011,
+        current_rx: 0x2011,
+    };
+    vec![
+        ("read, no address", Single::Read(frame(1, &[]))),
+        ("read, 40 addresses", Single::Read(frame(2, &forty))),
+        ("read, refused by 22", Single::Read(refused)),
+        ("write, no address", Single::Write(request(1), Vec::new())),
+        ("write, 40 addresses", Single::Write(request(2), forty)),
+        ("capability frame", Single::Receive(station, 1, heard)),
+    ]
+}

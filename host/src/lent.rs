@@ -1,0 +1,163 @@
+//! The channel events, and a look, on slices of the caller's, whatever their lengths: wrong ones are refused by number 1.
+
+use crate::raw;
+
+/// How many places a table has.
+pub const PLACES: usize = 64;
+/// The length of a table's keys.
+pub const KEYS: usize = 128;
+/// The length of a table's words.
+pub const WORDS: usize = 2_240;
+/// The length of a table's handles.
+pub const HANDLES: usize = 2_048;
+/// The length of a table's marks.
+pub const MARKS: usize = 2_048;
+/// The least length of an answer buffer.
+pub const BUFFER: usize = 32;
+
+/// A channel: destination, source and priority. An open channel's priority is 0 to 7.
+#[derive(Clone, Copy, Debug, PartialEq, Eq, Hash)]
+pub struct Channel {
+    /// The destination address.
+    pub destination: [u8; 6],
+    /// The source address.
+    pub source: [u8; 6],
+    /// The priority.
+    pub priority: u8,
+}
+
+/// The four slices of a table, lent for a call. `docs/LAYOUT.md` says what they hold; all zeros is the empty table.
+#[derive(Debug)]
+pub struct Slices<'a> {
+    /// Two words a place.
+    pub keys: &'a mut [u64],
+    /// 35 words a place.
+    pub words: &'a mut [u64],
+    /// 32 handles a place.
+    pub handles: &'a mut [u32],
+    /// 32 marks a place.
+    pub marks: &'a mut [u8],
+}
+
+/// The four slices of a table, lent to be looked at.
+#[derive(Clone, Copy, Debug)]
+pub struct Shown<'a> {
+    /// Two words a place.
+    pub keys: &'a [u64],
+    /// 35 words a place.
+    pub words: &'a [u64],
+    /// 32 handles a place.
+    pub handles: &'a [u32],
+    /// 32 marks a place.
+    pub marks: &'a [u8],
+}
+
+/// The three answer buffers, lent for a call.
+#[derive(Debug)]
+pub struct Buffers<'a> {
+    /// For handles handed up.
+    pub up: &'a mut [u32],
+    /// For handles returned.
+    pub returned: &'a mut [u32],
+    /// For numbers to be asked for again.
+    pub nack: &'a mut [u16],
+}
+
+/// The arguments that all four events begin with. They are apart, as `&mut` slices are, and live as long as the call.
+macro_rules! call {
+    ($function:ident, $keys:ident, $slices:ident, $buffers:ident, $channel:ident, $($own:expr),+) => {
+        // SAFETY: each pointer is a slice's, with its own length; what is written is borrowed by `&mut`, so it overlaps
+        // nothing else; the function keeps none of them.
+        unsafe {
+            raw::$function(
+                $slices.keys.$keys(),
+                $slices.keys.len(),
+                $slices.words.as_mut_ptr(),
+                $slices.words.len(),
+                $slices.handles.as_mut_ptr(),
+                $slices.handles.len(),
+                $slices.marks.as_mut_ptr(),
+                $slices.marks.len(),
+                $buffers.up.as_mut_ptr(),
+                $buffers.up.len(),
+                $buffers.returned.as_mut_ptr(),
+                $buffers.returned.len(),
+                $buffers.nack.as_mut_ptr(),
+                $buffers.nack.len(),
+                &$channel.destination,
+                &$channel.source,
+                $channel.priority,
+                $($own),+
+            )
+        }
+    };
+}
+
+/// A data frame with this number came in; the handle stands for its body.
+pub fn data(
+    slices: Slices<'_>,
+    buffers: Buffers<'_>,
+    channel: &Channel,
+    time: u64,
+    number: u16,
+    handle: u32,
+) -> raw::Answer {
+    call!(pik_data, as_mut_ptr, slices, buffers, channel, time, number, handle)
+}
+
+/// A reminder of this number came in.
+pub fn reminder(slices: Slices<'_>, buffers: Buffers<'_>, channel: &Channel, time: u64, number: u16) -> raw::Answer {
+    call!(pik_reminder, as_ptr, slices, buffers, channel, time, number)
+}
+
+/// The host's clock: what has been missing for 150 ticks is given up.
+pub fn tick(slices: Slices<'_>, buffers: Buffers<'_>, channel: &Channel, time: u64) -> raw::Answer {
+    call!(pik_tick, as_ptr, slices, buffers, channel, time)
+}
+
+/// The channel is closed, and its place is free.
+pub fn close(slices: Slices<'_>, buffers: Buffers<'_>, channel: &Channel, time: u64) -> raw::Answer {
+    call!(pik_close, as_mut_ptr, slices, buffers, channel, time)
+}
+
+/// Empties a table, whatever it held. Slices of another length are refused by number 1.
+pub fn empty(slices: Slices<'_>) -> u8 {
+    // SAFETY: as in `call!`.
+    unsafe {
+        raw::pik_empty(
+            slices.keys.as_mut_ptr(),
+            slices.keys.len(),
+            slices.words.as_mut_ptr(),
+            slices.words.len(),
+            slices.handles.as_mut_ptr(),
+            slices.handles.len(),
+            slices.marks.as_mut_ptr(),
+            slices.marks.len(),
+        )
+    }
+}
+
+/// A look at a channel's record: for each number from the oldest missing to the current one, 1 and the handle where it
+/// waits, 0 and the time since when it is missing.
+pub fn look(shown: Shown<'_>, channel: &Channel, waits: &mut [u8], values: &mut [u64]) -> raw::View {
+    // SAFETY: as in `call!`; the table is only read.
+    unsafe {
+        raw::pik_look(
+            shown.keys.as_ptr(),
+            shown.keys.len(),
+            shown.words.as_ptr(),
+            shown.words.len(),
+            shown.handles.as_ptr(),
+            shown.handles.len(),
+            shown.marks.as_ptr(),
+            shown.marks.len(),
+            &channel.destination,
+            &channel.source,
+            channel.priority,
+            waits.as_mut_ptr(),
+            waits.len(),
+            values.as_mut_ptr(),
+            values.len(),
+        )
+    }
+}

@@ -1,0 +1,36 @@
+//! A safe binding of Pikurandal, the proved link layer library of a wall box.
+//!
+//! - [`Table`] is the LARQ receiver: 64 channels, each putting its frames back into sequence.
+//! - [`Station`] keeps the capability sets of one station.
+//! - [`rate`] reads and writes rate request frames.
+//!
+//! The work is done in the archive `libwallbox.a`, each of whose functions is proved to do what is said of it on every
+//! input. This crate adds nothing but Rust's types, so that safe code cannot break what the archive leaves to its
+//! caller: pointers, lengths, and slices that are apart. [`raw`] has the archive's functions as they are, and [`lent`]
+//! the channel events on any slices of the caller's.
+//!
+//! ```
+//! use pikurandal::{Channel, Table};
+//!
+//! let channel = Channel { destination: [2, 0, 0, 0, 0, 1], source: [2, 0, 0, 0, 0, 2], priority: 3 };
+//! let mut table = Table::new();
+//! assert_eq!(table.data(&channel, 100, 10, 1010)?.up, [1010]); // the first frame opens the channel
+//! let gap = table.data(&channel, 101, 12, 1012)?; // number 11 is missing
+//! assert_eq!((gap.up, gap.nack), (&[][..], &[11][..]));
+//! assert_eq!(table.data(&channel, 105, 11, 1011)?.up, [1011, 1012]);
+//! # Ok::<(), pikurandal::Refusal>(())
+//! ```
+
+#![warn(missing_docs)]
+
+pub mod lent;
+pub mod rate;
+pub mod raw;
+mod refusal;
+mod station;
+mod table;
+
+pub use lent::Channel;
+pub use refusal::Refusal;
+pub use station::{Frame, Order, Station, Timer};
+pub use table::{Answer, Cell, Record, Table};

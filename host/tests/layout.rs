@@ -1,0 +1,147 @@
+//! The C header and the binding agree: sizes and offsets of every struct, the lengths of slices, and the numbers. The
+//! binding's account of them is written as a file of C that claims each, and a C compiler holds it against the header.
+
+use pikurandal::{lent, raw, Refusal};
+use std::fs;
+use std::mem::size_of;
+use std::path::Path;
+use std::process::Command;
+
+/// The claims on a struct: its size, and each field's offset and size.
+macro_rules! claims {
+    ($claims:ident, $name:literal, $type:ty, $($field:ident),+) => {
+        $claims.push(claim(&format!("sizeof(struct {})", $name), size_of::<$type>()));
+        $(
+            let whole = <$type>::default();
+            let offset = std::ptr::addr_of!(whole.$field) as usize - std::ptr::addr_of!(whole) as usize;
+            $claims.push(claim(&format!("offsetof(struct {}, {})", $name, stringify!($field)), offset));
+            let size = std::mem::size_of_val(&whole.$field);
+            $claims.push(claim(&format!("sizeof(((struct {} *)0)->{})", $name, stringify!($field)), size));
+        )+
+    };
+}
+
+fn claim(what: &str, value: usize) -> String {
+    format!("_Static_assert({what} == {value}, \"{what} is {value} in the binding\");\n")
+}
+
+fn structs() -> Vec<String> {
+    let mut claims = Vec::new();
+    claims!(claims, "pik_answer", raw::Answer, number, up, returned, nack, lost);
+    claims!(claims, "pik_view", raw::View, number, current, oldest, latest, span);
+    claims!(
+        claims,
+        "pik_station",
+        raw::Station,
+        default_set,
+        new_tx,
+        previous_tx,
+        oldest_tx,
+        new_rx,
+        previous_rx
+    );
+    claims!(claims, "pik_frame", raw::Frame, oldest_tx, current_tx, current_rx);
+    claims!(
+        claims,
+        "pik_station_answer",
+        raw::StationAnswer,
+        number,
+        sends,
+        timer,
+        reported,
+        station,
+        frame
+    );
+    claims!(
+        claims,
+        "pik_request",
+        raw::Request,
+        destination,
+        source,
+        opcode,
+        bands,
+        pe1,
+        rank1,
+        pe2,
+        rank2
+    );
+    claims!(
+        claims,
+        "pik_reading",
+        raw::Reading,
+        number,
+        addresses,
+        request,
+        start,
+        extent
+    );
+    claims!(claims, "pik_written", raw::Written, number, count);
+    claims
+}
+
+fn numbers() -> Vec<String> {
+    let lengths = [
+        ("PIK_PLACES", lent::PLACES),
+        ("PIK_KEYS", lent::KEYS),
+        ("PIK_WORDS", lent::WORDS),
+        ("PIK_HANDLES", lent::HANDLES),
+        ("PIK_MARKS", lent::MARKS),
+        ("PIK_BUFFER", lent::BUFFER),
+    ];
+    let lengths = lengths.iter().map(|(name, length)| claim(name, *length));
+    let refusals = Refusal::ALL
+        .iter()
+        .map(|refusal| claim(&c_name(*refusal), refusal.number().into()));
+    lengths.chain(refusals).collect()
+}
+
+/// The header's name of a refusal: `NoNumber` is `PIK_NO_NUMBER`, `Band1` is `PIK_BAND_1`.
+fn c_name(refusal: Refusal) -> String {
+    let mut name = "PIK".to_string();
+    for letter in format!("{refusal:?}").chars() {
+        if letter.is_uppercase() || letter.is_ascii_digit() {
+            name.push('_');
+        }
+        name.push(letter.to_ascii_uppercase());
+    }
+    name
+}
+
+/// Whether a C compiler takes the header with these claims.
+fn compiler_takes(claims: &str, name: &str) -> bool {
+    let file = Path::new(env!("CARGO_TARGET_TMPDIR")).join(name);
+    fs::write(&file, format!("#include \"pikurandal.h\"\n{claims}")).expect("the folder for tests can be written");
+    let compiler = std::env::var("CC").unwrap_or_else(|_| "cc".to_string());
+    let include = Path::new(env!("CARGO_MANIFEST_DIR")).join("../include");
+    let ended = Command::new(&compiler)
+        .args([
+            "-std=c11",
+            "-Wall",
+            "-Wextra",
+            "-Werror",
+            "-pedantic",
+            "-fsyntax-only",
+            "-I",
+        ])
+        .args([&include, &file])
+        .status();
+    ended.expect("a C compiler, `cc` or what CC names, is there").success()
+}
+
+#[test]
+fn header_and_binding_agree() {
+    assert!(compiler_takes(&[structs(), numbers()].concat().concat(), "layout.c"));
+}
+
+#[test]
+fn a_wrong_claim_is_seen() {
+    assert!(!compiler_takes(
+        &claim("sizeof(struct pik_answer)", size_of::<raw::Answer>() + 1),
+        "wrong.c"
+    ));
+}
+
+#[test]
+fn a_table_has_the_octets_that_the_plan_allows() {
+    assert_eq!(8 * (lent::KEYS + lent::WORDS) + 4 * lent::HANDLES + lent::MARKS, 29_184);
+}

@@ -1,0 +1,254 @@
+/*
+ * Pikurandal, the link layer library of a wall box, for C: the LARQ receiver over a table of 64 channels, the capability sets and the rate
+ * request frame. `rt staticlib wallbox` proves the library and writes the archive that has these functions, target/staticlib/libwallbox.a
+ * (x86-64 Linux); it needs nothing but C's memcpy, memmove and memset.
+ *
+ * Each function is proved to do what stands here on every input, refused ones too: none has a condition that a caller could break by the values
+ * that it passes. What no proof can see is the caller, so this is what the host owes:
+ *
+ * - A pointer with a length leads to that many elements, aligned as their type is, and is not NULL even where the length is 0. A pointer to an
+ *   address leads to six octets.
+ * - What a call writes overlaps nothing else that the same call was given: the four slices of a table, the three answer buffers and the addresses
+ *   of one call are all apart; so are a writer's output and addresses. Two things that are only read may overlap.
+ * - Nobody else writes to what was lent, nor reads what the call writes, before the call returns.
+ *
+ * No function keeps a pointer, allocates, locks, or calls back. Two threads may call at once on slices of their own.
+ */
+#ifndef PIKURANDAL_H
+#define PIKURANDAL_H
+
+#include <stdbool.h>
+#include <stddef.h>
+#include <stdint.h>
+
+#ifdef __cplusplus
+extern "C" {
+#endif
+
+/* ---- The numbers an answer may have. 0 is accepted; each other one says why the call was refused, and then nothing was changed or written. */
+
+enum pik_number {
+    PIK_ACCEPTED = 0,
+
+    /* Channel events: the first that applies, in this order. */
+    PIK_MISFIT = 1,      /* a buffer has fewer than 32 entries, or a slice of the table has not its length */
+    PIK_NO_NUMBER = 2,   /* data, reminder: the number is above 4,095 */
+    PIK_NO_PRIORITY = 3, /* the priority is above 7 */
+    PIK_NO_CHANNEL = 4,  /* reminder, tick, close, look: no such channel is open */
+    PIK_NO_PLACE = 5,    /* data: the channel would be new, and no place is free */
+    PIK_BROKEN = 6,      /* the channel's record is broken: the slices were written by someone else */
+    PIK_EARLY = 7,       /* the time is earlier than the channel's latest */
+    PIK_FAR = 8,         /* reminder: the number is more than 64 from the current one */
+
+    /* Rate requests. The reader checks 10 to 22 in this order, the writer 15, 16, 23, 18, 19, 20, 21, 24. */
+    PIK_FRAME_LENGTH = 10,   /* the frame has fewer than 60 or more than 1,514 octets */
+    PIK_ETHERTYPE = 11,      /* the Ethertype is not 0x886c */
+    PIK_SS_TYPE = 12,        /* SSType is not 1 */
+    PIK_SS_LENGTH = 13,      /* SSLength is below 8, or reaches past the frame's end */
+    PIK_SS_VERSION = 14,     /* SSVersion is not 0 */
+    PIK_OPCODE = 15,         /* OpCode is above 2 */
+    PIK_NO_BAND = 16,        /* NumBands is 0 */
+    PIK_COUNTS = 17,         /* SSLength is not 6 + 2 x NumBands + 6 x NumAddr */
+    PIK_BAND_1 = 18,         /* band 1's PE is not 1 to 7 */
+    PIK_BAND_2 = 19,         /* band 2 is there, and its PE is neither 0 nor 9 to 15 */
+    PIK_RANKS = 20,          /* a rank is 0, or the ranks of bands 1 and 2 are equal */
+    PIK_NO_GROUP = 21,       /* an extra address is no group address: the low bit of its first octet is 0 */
+    PIK_NEXT_ETHERTYPE = 22, /* Next Ethertype is not 0 */
+    PIK_LAYOUT = 23,         /* writer: address octets not a multiple of 6; more than two bands; one band, and a band 2 that is not PE 0,
+                                rank 0; or an SSLength above 255 */
+    PIK_OUTPUT = 24,         /* writer: the output is too short */
+
+    /* Capability sets. */
+    PIK_CSA_OPCODE = 30 /* received frame: the opcode is above 1 */
+};
+
+/* ---- The channel table
+ *
+ * The host lends four slices with each call and keeps them in between; all zeros is the empty table. Between calls they may be copied or moved, not
+ * written. docs/LAYOUT.md says what they hold. */
+
+enum {
+    PIK_PLACES = 64,
+    PIK_KEYS = 128,
+    PIK_WORDS = 2240,
+    PIK_HANDLES = 2048,
+    PIK_MARKS = 2048,
+
+    /* What each answer buffer must have at least: at most 32 handles go up, 31 come back and 32 numbers are asked for in one call. */
+    PIK_BUFFER = 32
+};
+
+/* A table's slices and an answer's buffers in one piece each, for hosts that like that; the functions take any slices. */
+struct pik_table {
+    uint64_t keys[PIK_KEYS];
+    uint64_t words[PIK_WORDS];
+    uint32_t handles[PIK_HANDLES];
+    uint8_t marks[PIK_MARKS];
+};
+
+struct pik_buffers {
+    uint32_t up[PIK_BUFFER];
+    uint32_t returned[PIK_BUFFER];
+    uint16_t nack[PIK_BUFFER];
+};
+
+/* Such a table, and such buffers, as the arguments of a call. */
+#define PIK_TABLE(t) (t)->keys, PIK_KEYS, (t)->words, PIK_WORDS, (t)->handles, PIK_HANDLES, (t)->marks, PIK_MARKS
+#define PIK_BUFFERS(b) (b)->up, PIK_BUFFER, (b)->returned, PIK_BUFFER, (b)->nack, PIK_BUFFER
+
+/* The answer to a channel event: the number, how many entries of each buffer were written, and how many numbers were given up as lost in this call.
+ * Entries past each count are as they were. Refused, all counts are 0. */
+struct pik_answer {
+    uint8_t number;
+    size_t up;       /* handles handed up, in sequence order */
+    size_t returned; /* handles that the box gives back unused, in sequence order */
+    size_t nack;     /* numbers to be asked for again, in sequence order */
+    size_t lost;
+};
+
+/* Empties a table, whatever it held: all zeros. Number 1, or 0. */
+uint8_t pik_empty(uint64_t *keys, size_t keys_length, uint64_t *words, size_t words_length, uint32_t *handles, size_t handles_length,
+                  uint8_t *marks, size_t marks_length);
+
+/* A data frame with this sequence number came in on a channel (a destination, a source, a priority 0 to 7); `handle` stands for its body, which stays
+ * with the host. The first frame opens the channel. Numbers 1, 2, 3, 5, 6, 7. */
+struct pik_answer pik_data(uint64_t *keys, size_t keys_length, uint64_t *words, size_t words_length, uint32_t *handles, size_t handles_length,
+                           uint8_t *marks, size_t marks_length, uint32_t *up, size_t up_length, uint32_t *returned, size_t returned_length,
+                           uint16_t *nack, size_t nack_length, const uint8_t destination[6], const uint8_t source[6], uint8_t priority,
+                           uint64_t time, uint16_t number, uint32_t handle);
+
+/* A reminder came in: the sender's current number. Numbers 1, 2, 3, 4, 6, 7, 8. */
+struct pik_answer pik_reminder(const uint64_t *keys, size_t keys_length, uint64_t *words, size_t words_length, uint32_t *handles, size_t handles_length,
+                               uint8_t *marks, size_t marks_length, uint32_t *up, size_t up_length, uint32_t *returned, size_t returned_length,
+                               uint16_t *nack, size_t nack_length, const uint8_t destination[6], const uint8_t source[6], uint8_t priority,
+                               uint64_t time, uint16_t number);
+
+/* The host's clock: numbers missing for 150 ticks or more are given up, and what waited behind them goes up. Numbers 1, 3, 4, 6, 7. */
+struct pik_answer pik_tick(const uint64_t *keys, size_t keys_length, uint64_t *words, size_t words_length, uint32_t *handles, size_t handles_length,
+                           uint8_t *marks, size_t marks_length, uint32_t *up, size_t up_length, uint32_t *returned, size_t returned_length,
+                           uint16_t *nack, size_t nack_length, const uint8_t destination[6], const uint8_t source[6], uint8_t priority,
+                           uint64_t time);
+
+/* The channel is closed: waiting handles are returned, and its place is free. Numbers 1, 3, 4, 6, 7. */
+struct pik_answer pik_close(uint64_t *keys, size_t keys_length, uint64_t *words, size_t words_length, uint32_t *handles, size_t handles_length,
+                            uint8_t *marks, size_t marks_length, uint32_t *up, size_t up_length, uint32_t *returned, size_t returned_length,
+                            uint16_t *nack, size_t nack_length, const uint8_t destination[6], const uint8_t source[6], uint8_t priority,
+                            uint64_t time);
+
+/* What a look at a channel shows: its current number C, its oldest missing number M, the latest time, and how many numbers there are from M to C (0:
+ * nothing is missing). Refused, all fields but the number are 0. */
+struct pik_view {
+    uint8_t number;
+    uint16_t current;
+    uint16_t oldest;
+    uint64_t latest;
+    size_t span;
+};
+
+/* A look at a channel's record; nothing changes by it. For each number from M to C, in sequence order, an entry of both buffers is written: 1 and the
+ * handle where it waits, 0 and the time since when it is missing. Each buffer must have 32 entries. Numbers 1, 3, 4, 6. */
+struct pik_view pik_look(const uint64_t *keys, size_t keys_length, const uint64_t *words, size_t words_length, const uint32_t *handles,
+                         size_t handles_length, const uint8_t *marks, size_t marks_length, const uint8_t destination[6],
+                         const uint8_t source[6], uint8_t priority, uint8_t *waits, size_t waits_length, uint64_t *values,
+                         size_t values_length);
+
+/* ---- Capability sets
+ *
+ * A set is a word of 32 flags. A station is six of them, kept by the host and passed by value; each event's answer has the station after it. */
+
+struct pik_station {
+    uint32_t default_set;
+    uint32_t new_tx;
+    uint32_t previous_tx;
+    uint32_t oldest_tx;
+    uint32_t new_rx;
+    uint32_t previous_rx;
+};
+
+/* The sets that a capability frame carries. */
+struct pik_frame {
+    uint32_t oldest_tx;
+    uint32_t current_tx;
+    uint32_t current_rx;
+};
+
+/* What the host is to do with its retransmit timer. */
+enum pik_timer {
+    PIK_TIMER_KEPT = 0,     /* nothing */
+    PIK_TIMER_STARTED = 1,  /* cancel it if it runs, and start it */
+    PIK_TIMER_CANCELLED = 2 /* cancel it if it runs */
+};
+
+struct pik_station_answer {
+    uint8_t number;
+    bool sends;                 /* a frame is to be sent now, with the sets in `frame` */
+    uint8_t timer;              /* one of enum pik_timer */
+    uint32_t reported;          /* flags that are really new */
+    struct pik_station station; /* the station after the event */
+    struct pik_frame frame;     /* the sets that a frame sent after the event carries */
+};
+
+/* A fresh station: NewTx is the default set, the others are empty. */
+struct pik_station pik_station_fresh(uint32_t default_set);
+
+/* The station uses these flags. Number 0 always. */
+struct pik_station_answer pik_station_use(struct pik_station station, uint32_t flags);
+
+/* The host's period timer ran out. Number 0 always. */
+struct pik_station_answer pik_station_period(struct pik_station station);
+
+/* A capability frame came in. Number 30, or 0. */
+struct pik_station_answer pik_station_receive(struct pik_station station, uint8_t opcode, struct pik_frame frame);
+
+/* The sets that a frame sent now carries: what the host sends when its retransmit timer runs out. */
+struct pik_frame pik_station_frame(struct pik_station station);
+
+/* ---- Rate requests */
+
+/* The fixed fields of a request. A band 2 that is not there is PE 0, rank 0. */
+struct pik_request {
+    uint8_t destination[6];
+    uint8_t source[6];
+    uint8_t opcode;
+    uint8_t bands;
+    uint8_t pe1;
+    uint8_t rank1;
+    uint8_t pe2;
+    uint8_t rank2;
+};
+
+/* A frame that was read. The addresses are the caller's own octets: `extent` of them, from octet `start` of the frame on. Refused, all fields but the
+ * number are 0. */
+struct pik_reading {
+    uint8_t number;
+    uint8_t addresses; /* how many: extent is 6 times that */
+    struct pik_request request;
+    size_t start;
+    size_t extent;
+};
+
+/* A request that was written: how many octets, 0 if refused. */
+struct pik_written {
+    uint8_t number;
+    size_t count;
+};
+
+/* Reads a frame of any length. Numbers 10 to 22. */
+struct pik_reading pik_rate_read(const uint8_t *frame, size_t frame_length);
+
+/* Writes a request with these addresses, six octets each, from the start of the output on: 60 octets, or more if the addresses need it, 270 at most.
+ * Octets past the count are as they were. Numbers 15, 16, 23, 18, 19, 20, 21, 24, in this order. */
+struct pik_written pik_rate_write(uint8_t *out, size_t out_length, struct pik_request request, const uint8_t *addresses,
+                                  size_t addresses_length);
+
+/* The rate of a PE in Mbit/s, or 0 where it has none. */
+uint8_t pik_rate_of(uint8_t pe);
+
+/* The band that a request chooses: 1 or 2, the one of lowest rank whose PE is not 0; 0 where both PEs are 0, which no accepted request has. */
+uint8_t pik_rate_chosen(struct pik_request request);
+
+#ifdef __cplusplus
+}
+#endif
+
+#endif
