@@ -1,26 +1,29 @@
 -- A data frame by where its number lies: what was done is what the rules say of it. Document 01, 'Data'. Assumes nothing.
 use Prim.Native.Nat.{ℕ, _-_, _≤_, _<_}
 use mathlib.Core.Path.{_≡_, refl, ap, sym, _∙_}
-use mathlib.Core.List.{List, [], _∷_}
+use mathlib.Core.List.{List, [], _∷_, _++_}
 use native.Mathlib.Omega.{arith}
 use lib.ListN.{length, set}
-use Rattle.ring.specs.Ring.{seen}
+use Rattle.ring.specs.Ring.{next, steps, seen}
 use Rattle.ring.specs.declared.Side.{Side}
 use Rattle.ring.specs.declared.Side.the-variants.{Ahead, Behind, Far}
 use Rattle.larq.specs.Channel as channel
 use Rattle.larq.specs.Channel.{waits, reach, Channel}
+use Rattle.larq.specs.Settling.{walk, wide}
 use Rattle.larq.specs.Answer.{Outcome, accepted, holds}
-use Rattle.larq.specs.Events.{frame, act-on, data-on, ahead, restarted, sideOf, taken}
-use Rattle.channel.specs.Place.{recordWith, recordOf}
+use Rattle.larq.specs.Events.{frame, act-on, data-on, ahead, restarted, opened, asked, settledAt, taken}
+use Rattle.channel.specs.Place.{window, cellAt, spanOf, recordWith, recordOf}
 use Rattle.channel.specs.Call.{Parts, Buffers, parts, buffers, Says, Did, Called}
-use Rattle.channel.specs.Steps.{Ready, recordIn, filledAt, dataAt}
-use Rattle.channel.specs.Judge.{MissingAt, KnownAt}
+use Rattle.channel.specs.Steps.{Ready, recordIn, spanIn, headed, filledAt, dataAt}
+use Rattle.channel.specs.Judge.{NextAt, MissingAt, KnownAt}
 use Rattle.channel.specs.declared.Answer.{Answer}
 use Rattle.channel.specs.declared.record.Record.{Record}
+use Rattle.channel.proofs.Windows.{window-none}
 use Rattle.channel.proofs.Laying.{wrote-none, wrote-one}
 use Rattle.channel.proofs.Places.{record-taken}
-use Rattle.channel.proofs.Opening.{Opened, ready}
+use Rattle.channel.proofs.Opening.{Opened, ready, ahead-by-one}
 use Rattle.channel.proofs.StepBehind.{rule-known}
+use Rattle.channel.proofs.Restarting.{record-opened}
 use Rattle.channel.proofs.Calling.{did-as, did-returned, did-nack, called-opened}
 
 module _ {r : Record} {W H K : List ℕ} (s x t : ℕ) (is-ready : Ready r W H K) where
@@ -30,6 +33,36 @@ module _ {r : Record} {W H K : List ℕ} (s x t : ℕ) (is-ready : Ready r W H K
   rule-by : {lies : Side} → seen (reach channel.window) (r .current .0) s ≡ lies → dataAt c t s x ≡ data-on channel.window c t s x lies
   unfolding recordWith
   rule-by is = ap (data-on channel.window c t s x) is
+
+  -- the number after C, while nothing is missing: the window is that number alone, and M passes it
+  rule-next : s < 4096 → NextAt r s → dataAt c t s x ≡ accepted (x ∷ []) [] [] 0 (holds (opened s t))
+  unfolding recordWith asked
+  rule-next ring at =
+      rule-by (at .is)
+      ∙ ap (λ cs. settledAt c t s 0 (walk (wide channel.window) (r .oldest .0) (cs ++ (waits x ∷ []))))
+      (window-none (cellAt W H K) (r .oldest .0) (spanIn r) (at .none))
+      ∙ ap (λ m. accepted (x ∷ []) [] [] 0 (holds (record { current = s; oldest = next m; latest = t; cells = [] }))) oldest-is
+    where
+      follows : (c m : ℕ) → m < 4096 → spanOf c m ≡ 0 → steps c s ≡ 1 → m ≡ s
+      follows c m a b d = omega arith
+
+      oldest-is : r .oldest .0 ≡ s
+      oldest-is = follows (r .current .0) (r .oldest .0) (is-ready .oldest) (at .none) (ahead-by-one (r .current .0) s (at .is))
+
+  pub frame-next : {w u : List ℕ} {a : Answer} (U B N : List ℕ) → s < 4096 → NextAt r s → 0 < length U → w ≡ headed W s (next s) t → u ≡ set U 0 x
+      → Says 0 1 0 0 0 a → Did (dataAt c t s x) (parts W H K) (parts w H K) (buffers U B N) (buffers u B N) a
+  frame-next U B N ring at room ew eu says =
+      did-as (rule-next ring at)
+      (record {
+        answered = record {
+          number = says .number;
+          up = rw (eu, says .up) (wrote-one U x room);
+          returned = rw (says .returned) (wrote-none B);
+          nack = rw (says .nack) (wrote-none N);
+          lost = says .lost;
+        };
+        became = rw ew (record-opened W H K s t (omega (arith, is-ready .sized .words)));
+      })
 
   pub frame-ahead : {d : ℕ} {after : Parts} {U u N n : List ℕ} {a : Answer} (B : List ℕ) → seen (reach channel.window) (r .current .0) s ≡ Ahead d
       → Did (ahead channel.window c t s (d - 1) (waits x ∷ [])) (parts W H K) after (buffers U [] N) (buffers u [] n) a

@@ -22,3 +22,4 @@ pub mod Calling
 pub mod Frames
 pub mod Zeroing
 pub mod Reminders
+pub mod OneOutcome

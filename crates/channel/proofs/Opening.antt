@@ -127,3 +127,6 @@ module _ (c s d : ℕ) (is : seen (reach channel.window) c s ≡ Ahead d) where
         near = omega (arith, ahead-of .is, ahead-of .near);
         all = omega (arith, ahead-of .is);
       }
+
+pub ahead-by-one : (c s : ℕ) → seen (reach channel.window) c s ≡ Ahead 1 → steps c s ≡ 1
+ahead-by-one c s is = ahead-of c s 1 is .is

@@ -18,7 +18,7 @@ use Rattle.larq.specs.Table.{notFar}
 use Rattle.channel.specs.Place.{window, cellAt, recordWith, recordOf}
 use Rattle.channel.specs.Call.{Parts, Buffers, parts, buffers, Says, Did, Called}
 use Rattle.channel.specs.Slots.{earlier}
-use Rattle.channel.specs.Steps.{Ready, recordIn, spanIn, walkOf, Finished, reminderAt}
+use Rattle.channel.specs.Steps.{Ready, recordIn, spanIn, walkOf, Finished, nothing, reminderAt}
 use Rattle.channel.specs.declared.Answer.{Answer}
 use Rattle.channel.specs.declared.record.Record.{Record}
 use Rattle.channel.proofs.Windows.{length-window}
@@ -78,7 +78,7 @@ module _ {r : Record} {W H K : List ℕ} (is-ready : Ready r W H K) (t : ℕ) wh
     pub tick-room : (U : List ℕ) → 32 ≤ length U → 0 + length (walkOf to until W H K .up) ≤ length U
     tick-room U room = omega (arith, ap (λ p. length (p .up)) walk-to, few-up)
 
-    pub tick-did : {U u w : List ℕ} {a : Answer} → Finished to until W H K 0 0 0 U w u a → 32 ≤ length U
+    pub tick-did : {U u w : List ℕ} {a : Answer} → Finished to until (parts W H K) nothing U w u a → 32 ≤ length U
         → Did (tick-on c t) (parts W H K) (parts w H K) (buffers U [] []) (buffers u [] []) a
     unfolding recordWith asked
     tick-did {U} {u} {w} {a} f room =
@@ -88,7 +88,7 @@ module _ {r : Record} {W H K : List ℕ} (is-ready : Ready r W H K) (t : ℕ) wh
             up = wrote-front (rw walk-to at (f .up)) (omega (arith, few-up));
             returned = rw (f .returned) (wrote-none []);
             nack = rw (f .nack) (wrote-none []);
-            lost = f .lost-all ∙ zero-add _ ∙ ap (λ p. p .lost) walk-to;
+            lost = f .lost ∙ zero-add _ ∙ ap (λ p. p .lost) walk-to;
           };
           became =
               f .became

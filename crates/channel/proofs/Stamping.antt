@@ -68,6 +68,7 @@ rising-suc m n p = ap (rising m) (let e : n ≡ suc (n - 1) = omega arith in e)
 -- What the loop keeps: what is still to be put from here is what was to be put from the start.
 pub record Misses (m n time : ℕ) (w k q w′ k′ q′ : List ℕ) (i left to : ℕ) : Type 0 where
   pub room : to + left ≤ length q′
+  pub count : to + left ≡ n
   pub words-sized : length w′ ≡ 35
   pub marks-sized : length k′ ≡ 32
   pub nack-sized : length q′ ≡ length q
@@ -76,13 +77,15 @@ pub record Misses (m n time : ℕ) (w k q w′ k′ q′ : List ℕ) (i left to 
   pub nack : sets q′ to (rising i left) ≡ sets q 0 (rising m n)
 
 module _ {m n time : ℕ} {w k q w′ k′ q′ : List ℕ} {i left to : ℕ} (keeps : Misses m n time w k q w′ k′ q′ i left to) where
-  pub misses-end : left ≡ 0 → Missed m n time w k q w′ k′ q′
-  misses-end z =
-      record {
-        words = sym (stamped-none 3 time w′ i left z) ∙ keeps .words;
-        marks = sym (stamped-none 0 0 k′ i left z) ∙ keeps .marks;
-        nack = sym (ap (sets q′ to) (rising-none i left z)) ∙ keeps .nack;
-      }
+  pub misses-end : left ≡ 0 → (to ≡ n) × Missed m n time w k q w′ k′ q′
+  misses-end z = (
+    omega (arith, keeps .count),
+    record {
+      words = sym (stamped-none 3 time w′ i left z) ∙ keeps .words;
+      marks = sym (stamped-none 0 0 k′ i left z) ∙ keeps .marks;
+      nack = sym (ap (sets q′ to) (rising-none i left z)) ∙ keeps .nack;
+    },
+  )
 
   pub misses-turn : {j i′ : ℕ} → 0 < left → j ≡ i % 32 → i′ ≡ next i
       → Misses m n time w k q (set w′ (3 + j) time) (set k′ j 0) (set q′ to i) i′ (left - 1) (to + 1)
@@ -90,6 +93,7 @@ module _ {m n time : ℕ} {w k q w′ k′ q′ : List ℕ} {i left to : ℕ} (k
       rw (at-slot, step)
       (record {
         room = simp length-set (omega (arith, keeps .room));
+        count = omega (arith, keeps .count);
         words-sized = length-set w′ (3 + i % 32) time ∙ keeps .words-sized;
         marks-sized = length-set k′ (i % 32) 0 ∙ keeps .marks-sized;
         nack-sized = length-set q′ to i ∙ keeps .nack-sized;

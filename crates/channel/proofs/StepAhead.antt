@@ -14,11 +14,12 @@ use Rattle.larq.specs.Answer.{accepted, holds}
 use Rattle.larq.specs.Events.{ahead, settledAt, moved}
 use Rattle.channel.specs.Place.{window, cellAt, recordWith}
 use Rattle.channel.specs.Call.{Did, parts, buffers}
-use Rattle.channel.specs.Slots.{Laid, stamped, waitingOf, earlier}
-use Rattle.channel.specs.Steps.{Sized, Ready, recordIn, spanIn, walkOf, Finished, IsGrown, cellsOf, handlesWith, marksWith, IsAhead, Entered}
+use Rattle.channel.specs.Slots.{Laid, Missed, stamped, waitingOf, earlier}
+use Rattle.channel.specs.Steps.{Sized, Ready, recordIn, spanIn, walkOf, Finished, IsGrown, cellsOf, handlesWith, marksWith, IsAhead}
 use Rattle.channel.specs.declared.Answer.{Answer}
 use Rattle.channel.specs.declared.record.Record.{Record}
 use Rattle.channel.specs.declared.record.Grown.{Grown}
+use Rattle.channel.specs.declared.act.Counts.{Counts}
 use Rattle.channel.specs.declared.act.Last.{Last}
 use Rattle.channel.specs.declared.act.Last.the-variants.{Waits, Missing}
 use Rattle.channel.proofs.Laying.{laid-length, laid-laid, wrote-front, wrote-none}
@@ -92,44 +93,48 @@ module _ {r : Record} {W H K : List ℕ} {s k t : ℕ} {last : Last} {to : Grown
   pub count-room : to .count ≤ 32
   count-room = omega (arith, is .count, is .over, is-ahead .near, is-ahead .all, past-few grows)
 
-  -- The calls, one after the other: those that M passes at once go up, the new numbers enter, and M settles.
-  module _ {U u₁ N w₁ h₁ k₁ q₁ : List ℕ} {end : ℕ} (room-up : 32 ≤ length U) (room-nack : 32 ≤ length N) (handing : Laid handed 0 U u₁ end)
-      (entered : Entered (to .first .0) (to .count) t s last (parts W H K) N (parts w₁ h₁ k₁) q₁) where
-    walk-to : walkOf (to .kept) 0 w₁ h₁ k₁ ≡ again
+  -- The calls, one after the other: those that M passes at once go up, numbers become missing, the last comes, and M settles.
+  module _ {U u₁ N w₁ k₁ q₁ h₂ k₂ : List ℕ} {end : ℕ} (room-up : 32 ≤ length U) (room-nack : 32 ≤ length N) (handing : Laid handed 0 U u₁ end)
+      (missed : Missed (to .first .0) (to .count) t W K N w₁ k₁ q₁) (handles-are : h₂ ≡ handlesWith last s H)
+      (marks-are : k₂ ≡ marksWith last s k₁) where
+    marks-all : k₂ ≡ marksWith last s (stamped 0 K (to .first .0) (to .count) 0)
+    marks-all = marks-are ∙ ap (marksWith last s) (missed .marks)
+
+    walk-to : walkOf (to .kept) 0 w₁ h₂ k₂ ≡ again
     walk-to =
-        rw (is .current, is .oldest, entered .words, entered .handles, entered .marks)
+        rw (is .current, is .oldest, missed .words, handles-are, marks-all)
         (ap (λ x. walk (earlier 0) (forward m (to .over)) (window (new-cell grows W H K (ready .sized) t) (forward m (to .over)) x)) (span-again grows))
 
-    up-to : length (walkOf (to .kept) 0 w₁ h₁ k₁ .up) ≡ length (again .up)
+    up-to : length (walkOf (to .kept) 0 w₁ h₂ k₂ .up) ≡ length (again .up)
     up-to = ap (λ p. length (p .up)) walk-to
 
     up-few : length handed + length (again .up) ≤ 32
     up-few = rw (← handed-is) at (up-room grows W H K (ready .sized) t head)
 
-    pub entered-sized : Sized w₁ h₁ k₁
-    entered-sized =
+    pub settle-sized : Sized w₁ h₂ k₂
+    settle-sized =
         record {
-          words = ap length (entered .words) ∙ length-stamped 3 t W (to .first .0) (to .count) ∙ ready .sized .words;
-          handles = ap length (entered .handles) ∙ length-handles last s H ∙ ready .sized .handles;
+          words = ap length (missed .words) ∙ length-stamped 3 t W (to .first .0) (to .count) ∙ ready .sized .words;
+          handles = ap length handles-are ∙ length-handles last s H ∙ ready .sized .handles;
           marks =
-              ap length (entered .marks)
+              ap length marks-all
               ∙ length-marks last s (stamped 0 K (to .first .0) (to .count) 0)
               ∙ length-stamped 0 0 K (to .first .0) (to .count)
               ∙ ready .sized .marks;
         }
 
-    pub settle-room : (to .kept .oldest .0 < 4096) × (to .over - end ≤ 4096) × (end + length (walkOf (to .kept) 0 w₁ h₁ k₁ .up) ≤ length u₁)
+    pub settle-room : (to .kept .oldest .0 < 4096) × (to .over - end ≤ 4096) × (end + length (walkOf (to .kept) 0 w₁ h₂ k₂ .up) ≤ length u₁)
     settle-room = (
       rw (is .oldest) (forward-small m (to .over)),
       omega (arith, is .over, ready .narrow, is-ahead .near),
       omega (arith, handing .end-is, up-to, up-few, laid-length handing),
     )
 
-    pub ahead-did : {w₂ u₂ : List ℕ} {asked : ℕ} {a : Answer} → asked ≡ to .count
-        → Finished (to .kept) 0 w₁ h₁ k₁ end asked (to .over - end) u₁ w₂ u₂ a
-        → Did (ahead channel.window (recordIn r W H K) t s k (cellsOf last)) (parts W H K) (parts w₂ h₁ k₁) (buffers U [] N) (buffers u₂ [] q₁) a
-    ahead-did {w₂} {u₂} {asked} {a} e f =
-        let all : Laid (handed ++ again .up) 0 U u₂ (a .up) = laid-laid handing (rw walk-to at (f .up)) in
+    pub ahead-did : {w₂ u₂ : List ℕ} {had : Counts} {a : Answer} → had .up ≡ end → had .nack ≡ to .count → had .lost ≡ to .over - end
+        → Finished (to .kept) 0 (parts w₁ h₂ k₂) had u₁ w₂ u₂ a
+        → Did (ahead channel.window (recordIn r W H K) t s k (cellsOf last)) (parts W H K) (parts w₂ h₂ k₂) (buffers U [] N) (buffers u₂ [] q₁) a
+    ahead-did {w₂} {u₂} {had} {a} eu en el f =
+        let all : Laid (handed ++ again .up) 0 U u₂ (a .up) = laid-laid handing (rw (walk-to, eu) at (f .up)) in
         rw rule-ahead
         (record {
           answered = record {
@@ -137,9 +142,9 @@ module _ {r : Record} {W H K : List ℕ} {s k t : ℕ} {last : Last} {to : Grown
             up = wrote-front all (omega (arith, length-append handed (again .up), up-few));
             returned = rw (f .returned) (wrote-none []);
             nack =
-                wrote-front (record { end-is = f .nack ∙ e ∙ sym (zero-add _ ∙ length-rising (to .first .0) (to .count)); buffer = entered .asked })
+                wrote-front (record { end-is = f .nack ∙ en ∙ sym (zero-add _ ∙ length-rising (to .first .0) (to .count)); buffer = missed .nack })
                 (rw (length-rising (to .first .0) (to .count)) (omega (arith, room-nack, count-room)));
-            lost = f .lost-all ∙ ap₂ (λ x y. to .over - x + y) (handing .end-is ∙ zero-add _) (ap (λ p. p .lost) walk-to);
+            lost = f .lost ∙ ap₂ (λ x y. x + y) (el ∙ ap (λ x. to .over - x) (handing .end-is ∙ zero-add _)) (ap (λ p. p .lost) walk-to);
           };
           became =
               f .became

@@ -18,7 +18,7 @@ use Rattle.larq.specs.Events.{asked, filling, filled, settledAt, moved, taken}
 use Rattle.channel.specs.Place.{window, cellAt, recordWith, recordOf}
 use Rattle.channel.specs.Call.{Did, Says, parts, buffers}
 use Rattle.channel.specs.Slots.{earlier}
-use Rattle.channel.specs.Steps.{Sized, Ready, recordIn, spanIn, walkOf, Finished, filledAt}
+use Rattle.channel.specs.Steps.{Sized, Ready, recordIn, spanIn, walkOf, Finished, nothing, filledAt}
 use Rattle.channel.specs.Judge.{MissingAt, KnownAt}
 use Rattle.channel.specs.declared.Answer.{Answer}
 use Rattle.channel.specs.declared.record.Record.{Record}
@@ -115,7 +115,7 @@ module _ {r : Record} {W H K : List ℕ} (ready : Ready r W H K) (s x t : ℕ) w
       pub filled-room : (U : List ℕ) → 32 ≤ length U → 0 + length (walkOf to 0 W h k .up) ≤ length U
       filled-room U room = omega (arith, ap (λ p. length (p .up)) walk-to, few-up)
 
-      pub filled-did : {U w u : List ℕ} {a : Answer} → Finished to 0 W h k 0 0 0 U w u a → 32 ≤ length U
+      pub filled-did : {U w u : List ℕ} {a : Answer} → Finished to 0 (parts W h k) nothing U w u a → 32 ≤ length U
           → Did (filledAt (recordIn r W H K) t s x) (parts W H K) (parts w h k) (buffers U [] []) (buffers u [] []) a
       filled-did {U} {w} {u} {a} f room =
           rw rule-missing
@@ -125,7 +125,7 @@ module _ {r : Record} {W H K : List ℕ} (ready : Ready r W H K) (s x t : ℕ) w
               up = wrote-front (rw walk-to at (f .up)) (omega (arith, few-up));
               returned = rw (f .returned) (wrote-none []);
               nack = rw (f .nack) (wrote-none []);
-              lost = f .lost-all ∙ zero-add _ ∙ ap (λ p. p .lost) walk-to;
+              lost = f .lost ∙ zero-add _ ∙ ap (λ p. p .lost) walk-to;
             };
             became =
                 f .became

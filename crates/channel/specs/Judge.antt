@@ -81,7 +81,12 @@ pub record KnownAt (r : Record) (marks : List ℕ) (s : ℕ) : Type 0 where
   pub behind : BehindAt (r .current .0) s
   pub known : (spanIn r ≤ steps (r .oldest .0) s) ⊎ ((steps (r .oldest .0) s < spanIn r) × (getD marks (s % 32) 0 ≡ 0 → ⊥))
 
+pub record NextAt (r : Record) (s : ℕ) : Type 0 where
+  pub is : seen (reach window) (r .current .0) s ≡ Ahead 1
+  pub none : spanIn r ≡ 0
+
 abbrev pub LiesAt : Record → List ℕ → ℕ → Spot → Type 0
+LiesAt r marks s spot.Next = NextAt r s
 LiesAt r marks s (spot.Ahead d) = seen (reach window) (r .current .0) s ≡ Ahead d
 LiesAt r marks s spot.Missing = MissingAt r marks s
 LiesAt r marks s spot.Known = KnownAt r marks s

@@ -4,8 +4,7 @@ use mathlib.Core.Path.{_≡_}
 use mathlib.Core.Bool.{cond}
 use mathlib.Core.List.{List, [], _∷_}
 use lib.ListN.{length, getD, set}
-use lib.Seq.{sets}
-use Rattle.ring.specs.Ring.{forward, steps, rising}
+use Rattle.ring.specs.Ring.{forward, steps}
 use Rattle.larq.specs.Channel.{Cell, waits, Channel}
 use Rattle.larq.specs.Settling.{Walked, walk}
 use Rattle.larq.specs.Channel as channel
@@ -13,12 +12,13 @@ use Rattle.larq.specs.Answer.{Outcome, refused}
 use Rattle.larq.specs.Events.{moved, filling, filled, data-on, reminder-on, sideOf}
 use Rattle.larq.specs.Table.{notFar}
 use Rattle.channel.specs.Place.{window, cellAt, spanOf, recordWith, recordOf}
-use Rattle.channel.specs.Slots.{earlier, stamped, Laid}
+use Rattle.channel.specs.Slots.{earlier, Laid}
 use Rattle.channel.specs.Call.{Parts}
 use Rattle.channel.specs.declared.Answer.{Answer}
 use Rattle.channel.specs.declared.record.Record.{Record}
 use Rattle.channel.specs.declared.record.Grown.{Grown}
 use Rattle.channel.specs.declared.window.Settled.{Settled}
+use Rattle.channel.specs.declared.act.Counts.{Counts}
 use Rattle.channel.specs.declared.act.Last.{Last}
 use Rattle.channel.specs.declared.act.Last.the-variants.{Waits, Missing}
 
@@ -61,14 +61,18 @@ pub record Settles (r : Record) (until : ℕ) (words handles marks : List ℕ) (
   pub current : s .kept .current .0 ≡ r .current .0
   pub latest : s .kept .latest ≡ r .latest
 
--- M has settled and the record is laid down, in a call that had handed up `at` handles, asked for `asked` numbers and lost `lost`
-pub record Finished (r : Record) (until : ℕ) (w h k : List ℕ) (at asked lost : ℕ) (before w′ after : List ℕ) (a : Answer) : Type 0 where
+-- nothing has been answered yet
+abbrev pub nothing : Counts
+nothing = record { up = 0; nack = 0; lost = 0 }
+
+-- M has settled and the record is laid down, in a call that had answered so much before
+pub record Finished (r : Record) (until : ℕ) (p : Parts) (had : Counts) (before w after : List ℕ) (a : Answer) : Type 0 where
   pub number : a .number ≡ 0
-  pub up : Laid (walkOf r until w h k .up) at before after (a .up)
+  pub up : Laid (walkOf r until (p .words) (p .handles) (p .marks) .up) (had .up) before after (a .up)
   pub returned : a .returned ≡ 0
-  pub nack : a .nack ≡ asked
-  pub lost-all : a .lost ≡ lost + walkOf r until w h k .lost
-  pub became : recordOf w′ h k ≡ moved (r .current .0) (r .latest) (walkOf r until w h k)
+  pub nack : a .nack ≡ had .nack
+  pub lost : a .lost ≡ had .lost + walkOf r until (p .words) (p .handles) (p .marks) .lost
+  pub became : recordOf w (p .handles) (p .marks) ≡ moved (r .current .0) (r .latest) (walkOf r until (p .words) (p .handles) (p .marks))
 
 -- a step ahead to s, by which so many numbers become missing: the window when M has passed what is then too much
 pub record IsGrown (r : Record) (s made time : ℕ) (g : Grown) : Type 0 where
@@ -98,13 +102,6 @@ pub record IsAhead (c s made : ℕ) (last : Last) : Type 0 where
   pub some : 0 < steps c s
   pub near : steps c s ≤ 64
   pub all : steps c s ≡ made + length (cellsOf last)
-
--- the slots of a step ahead: `count` numbers from `first` on are missing and asked for, and the last has come
-pub record Entered (first count time s : ℕ) (last : Last) (before : Parts) (nack : List ℕ) (after : Parts) (nack′ : List ℕ) : Type 0 where
-  pub words : after .words ≡ stamped 3 (before .words) first count time
-  pub handles : after .handles ≡ handlesWith last s (before .handles)
-  pub marks : after .marks ≡ marksWith last s (stamped 0 (before .marks) first count 0)
-  pub asked : nack′ ≡ sets nack 0 (rising first count)
 
 -- s lies behind, as the rules have it
 abbrev pub filledAt : Channel ℕ → ℕ → ℕ → ℕ → Outcome ℕ

@@ -3,13 +3,12 @@ ghost use mathlib.Core.Path.{_≡_};
 ghost use mathlib.Core.List.{[], _∷_};
 ghost use Prim.Native.Nat.{_+_, _-_, _≤_, _<_};
 ghost use lib.ListN.{length, set};
-ghost use Rattle.ring.specs.Ring.{steps};
+ghost use Rattle.ring.specs.Ring.{steps, next};
 ghost use Rattle.larq.specs.Channel.{window};
-ghost use Rattle.larq.specs.Events.{ahead, restarted, tick-on, close-on};
+ghost use Rattle.larq.specs.Events.{ahead, restarted, close-on};
 ghost use Rattle.larq.specs.Settling.{hold};
-ghost use Rattle.channel.specs.Place.{spanOf};
 ghost use Rattle.channel.specs.Call.{Did, Says, parts, buffers};
-ghost use Rattle.channel.specs.Steps.{Sized, Ready, recordIn, walkOf, Finished, cellsOf, handlesWith, marksWith, Entered, IsAhead, filledAt};
+ghost use Rattle.channel.specs.Steps.{Sized, Ready, recordIn, walkOf, Finished, cellsOf, handlesWith, marksWith, IsAhead, filledAt, headed};
 ghost use Rattle.channel.specs.Judge.{MissingAt};
 use crate::Answer;
 use crate::record::Record;
@@ -28,6 +27,24 @@ pub(crate) enum Last {
     Missing,
 }
 
+// What a call has answered before M settles: handles gone up, numbers asked for, numbers given up.
+pub(crate) struct Counts {
+    pub(crate) up: usize,
+    pub(crate) nack: usize,
+    pub(crate) lost: usize,
+}
+
+impl Counts {
+    pub(crate) const NONE: Counts = Counts {
+        up: 0,
+        nack: 0,
+        lost: 0,
+    };
+}
+
+// No time lies before 0: up to here nothing is missing for too long.
+pub(crate) const NEVER: u64 = 0;
+
 // The last number waits at its slot, if a frame brings it.
 fn bring(handles: &mut [u32], marks: &mut [u8], s: Seq, last: Last)
     requires { ⌜ (length (now handles) ≡ 32) × (length (now marks) ≡ 32) ⌝ }
@@ -40,23 +57,21 @@ fn bring(handles: &mut [u32], marks: &mut [u8], s: Seq, last: Last)
     }
 }
 
-// M settles and the record is laid down. What goes up follows the `at` handles that went up before in this call, and those given up
-// are counted with the `lost` before; `asked` numbers have been asked for.
-fn settle(
+// M settles and the record is laid down. What goes up follows what went up before in this call, and what is given up is counted with it.
+pub(crate) fn settle(
     r: Record,
     words: &mut [u64],
     handles: &[u32],
     marks: &[u8],
     up: &mut [u32],
-    at: usize,
-    asked: usize,
-    lost: usize,
+    had: Counts,
     until: u64,
 ) -> Answer
     requires { ⌜ Sized (now words) (now handles) (now marks) ⌝ }
-    requires { ⌜ (r .oldest .0 < 4096) × (lost ≤ 4096) × (at + length (walkOf r until (now words) (now handles) (now marks) .up) ≤ length (now up)) ⌝ }
-    ensures { λ a. ⌜ Finished r until (now (words .entry)) (now (handles .entry)) (now (marks .entry)) at asked lost (now (up .entry)) (now (words .exit)) (now (up .exit)) a ⌝ }
+    requires { ⌜ (r .oldest .0 < 4096) × (had .lost ≤ 4096) × (had .up + length (walkOf r until (now words) (now handles) (now marks) .up) ≤ length (now up)) ⌝ }
+    ensures { λ a. ⌜ Finished r until (parts (now (words .entry)) (now (handles .entry)) (now (marks .entry))) had (now (up .entry)) (now (words .exit)) (now (up .exit)) a ⌝ }
 {
+    let at = had.up;
     let done = r.settled(words, handles, marks, up, at, until);
     let kept = done.kept;
     kept.stored(words);
@@ -64,29 +79,9 @@ fn settle(
         number: 0,
         up: done.up,
         returned: 0,
-        nack: asked,
-        lost: lost + done.lost,
+        nack: had.nack,
+        lost: had.lost + done.lost,
     }
-}
-
-// `count` numbers from `first` on become missing at this time and are asked for, and the last number comes: how many are asked for.
-fn enter(
-    words: &mut [u64],
-    handles: &mut [u32],
-    marks: &mut [u8],
-    nack: &mut [u16],
-    first: Seq,
-    count: u16,
-    s: Seq,
-    last: Last,
-    time: u64,
-) -> usize
-    requires { ⌜ Sized (now words) (now handles) (now marks) × (count ≤ length (now nack)) ⌝ }
-    ensures { λ r. ⌜ (r ≡ count) × Entered (first .0) count time (s .0) last (parts (now (words .entry)) (now (handles .entry)) (now (marks .entry))) (now (nack .entry)) (parts (now (words .exit)) (now (handles .exit)) (now (marks .exit))) (now (nack .exit)) ⌝ }
-{
-    miss(words, marks, nack, first, count, time);
-    bring(handles, marks, s, last);
-    count as usize
 }
 
 // Number s lies ahead: `made` numbers from C + 1 on become missing, s comes last, and M settles.
@@ -109,19 +104,15 @@ pub(crate) fn ahead(
 {
     let g = r.grown(s, made, time);
     let passed = hand(handles, marks, r.oldest, g.old, up, 0);
-    let asked = enter(words, handles, marks, nack, g.first, g.count, s, last, time);
+    let asked = miss(words, marks, nack, g.first, g.count, time);
+    bring(handles, marks, s, last);
     let kept = g.kept;
-    settle(
-        kept,
-        words,
-        handles,
-        marks,
-        up,
-        passed,
-        asked,
-        g.over - passed,
-        0,
-    )
+    let had = Counts {
+        up: passed,
+        nack: asked,
+        lost: g.over - passed,
+    };
+    settle(kept, words, handles, marks, up, had, NEVER)
 }
 
 // Number s is in the window and missing: it waits, and M settles.
@@ -141,7 +132,23 @@ pub(crate) fn filled(
 {
     bring(handles, marks, s, Last::Waits(handle));
     let kept = r.arrived(r.current, time);
-    settle(kept, words, handles, marks, up, 0, 0, 0, 0)
+    settle(kept, words, handles, marks, up, Counts::NONE, NEVER)
+}
+
+// Number s is the next expected one and nothing is missing: it goes up at once.
+pub(crate) fn handed_up(words: &mut [u64], up: &mut [u32], s: Seq, handle: u32, time: u64) -> Answer
+    requires { ⌜ (2 < length (now words)) × (0 < length (now up)) ⌝ }
+    ensures { λ a. ⌜ (now (words .exit) ≡ headed (now (words .entry)) (s .0) (next (s .0)) time) × (now (up .exit) ≡ set (now (up .entry)) 0 handle) × Says 0 1 0 0 0 a ⌝ }
+{
+    up[0] = handle;
+    Record::opened(s, time).stored(words);
+    Answer {
+        number: 0,
+        up: 1,
+        returned: 0,
+        nack: 0,
+        lost: 0,
+    }
 }
 
 // Number s waits already or lies before M: its handle comes back, and only the latest time changes.
@@ -203,37 +210,11 @@ pub(crate) fn noted(words: &mut [u64], time: u64) -> Answer
     }
 }
 
-// A tick gives up at `time` what is missing since before this: 150 or more ticks ago.
-fn given_up_before(time: u64) -> u64
+// What is missing since before this is, at `time`, missing for 150 ticks or more.
+pub(crate) fn stale_before(time: u64) -> u64
     ensures { λ r. ⌜ r ≡ time + 1 - hold ⌝ }
 {
     if HOLD <= time { time - HOLD + 1 } else { 0 }
-}
-
-// A tick: M moves on over what is missing for too long, and over what waits.
-pub(crate) fn ticked(
-    r: Record,
-    words: &mut [u64],
-    handles: &[u32],
-    marks: &[u8],
-    up: &mut [u32],
-    time: u64,
-) -> Answer
-    requires { ⌜ Ready r (now words) (now handles) (now marks) × (32 ≤ length (now up)) ⌝ }
-    ensures { λ a. ⌜ Did (tick-on (recordIn r (now (words .entry)) (now (handles .entry)) (now (marks .entry))) time) (parts (now (words .entry)) (now (handles .entry)) (now (marks .entry))) (parts (now (words .exit)) (now (handles .entry)) (now (marks .entry))) (buffers (now (up .entry)) [] []) (buffers (now (up .exit)) [] []) a ⌝ }
-{
-    let kept = r.arrived(r.current, time);
-    settle(
-        kept,
-        words,
-        handles,
-        marks,
-        up,
-        0,
-        0,
-        0,
-        given_up_before(time),
-    )
 }
 
 // A close: every waiting handle comes back, and the place is zeros.

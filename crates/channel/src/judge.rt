@@ -119,8 +119,10 @@ pub(crate) fn judge(
     Judged::Open(read(words))
 }
 
-// Where the number of a frame lies: ahead of C by so many; in the window and missing; waiting already or before M; or far.
+// Where the number of a frame lies: next after C while nothing is missing; ahead of C by so many; in the window and missing; waiting
+// already or before M; or far.
 pub(crate) enum Spot {
+    Next,
     Ahead(u16),
     Missing,
     Known,
@@ -135,7 +137,12 @@ impl Record {
         let c = self.current;
         let m = self.oldest;
         match c.seen(s) {
-            Side::Ahead(d) => Spot::Ahead(d),
+            Side::Ahead(d) => {
+                if (d == 1) & (self.span() == 0) {
+                    return Spot::Next;
+                }
+                Spot::Ahead(d)
+            }
             Side::Behind(_) => {
                 if self.span() <= m.steps(s) {
                     return Spot::Known;

@@ -12,14 +12,17 @@ mod record;
 mod window;
 mod zero;
 
+use crate::act::Counts;
 use crate::act::Last;
 use crate::act::ahead;
 use crate::act::closed;
 use crate::act::filled;
+use crate::act::handed_up;
 use crate::act::noted;
 use crate::act::restarted;
 use crate::act::sent_back;
-use crate::act::ticked;
+use crate::act::settle;
+use crate::act::stale_before;
 use crate::judge::Judged;
 use crate::judge::Spot;
 use crate::judge::judge;
@@ -121,6 +124,7 @@ fn arrive(
             Last::Waits(handle),
             time,
         ),
+        Spot::Next => handed_up(words, up, s, handle, time),
         Spot::Missing => filled(r, words, handles, marks, up, s, handle, time),
         Spot::Known => sent_back(words, returned, handle, time),
         Spot::Far => restarted(r, words, handles, marks, up, returned, s, handle, time),
@@ -212,7 +216,18 @@ pub fn tick(
         time,
     ) {
         Judged::Refused(n) => refused(n),
-        Judged::Open(r) => ticked(r, words, handles, marks, up, time),
+        Judged::Open(r) => {
+            let kept = r.arrived(r.current, time);
+            settle(
+                kept,
+                words,
+                handles,
+                marks,
+                up,
+                Counts::NONE,
+                stale_before(time),
+            )
+        }
     }
 }
 

@@ -43,7 +43,7 @@ pub(crate) fn hand(
     to
 }
 
-// Makes n numbers from `from` on missing at this time, and asks for them.
+// Makes n numbers from `from` on missing at this time, and asks for them: how many are asked for.
 pub(crate) fn miss(
     words: &mut [u64],
     marks: &mut [u8],
@@ -51,10 +51,10 @@ pub(crate) fn miss(
     from: Seq,
     n: u16,
     time: u64,
-)
+) -> usize
     requires { ⌜ (length (now words) ≡ 35) × (length (now marks) ≡ 32) ⌝ }
     requires { ⌜ n ≤ length (now nack) ⌝ }
-    ensures { λ _. ⌜ Missed (from .0) n time (now (words .entry)) (now (marks .entry)) (now (nack .entry)) (now (words .exit)) (now (marks .exit)) (now (nack .exit)) ⌝ }
+    ensures { λ r. ⌜ (r ≡ n) × Missed (from .0) n time (now (words .entry)) (now (marks .entry)) (now (nack .entry)) (now (words .exit)) (now (marks .exit)) (now (nack .exit)) ⌝ }
 {
     let mut i = from;
     let mut left = n;
@@ -68,6 +68,7 @@ pub(crate) fn miss(
         i = i.forward(1);
         left -= 1;
     }
+    to
 }
 
 // Whether the times of the missing among n numbers from `from` on do not fall, and none is later than the latest.

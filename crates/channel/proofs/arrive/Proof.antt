@@ -3,9 +3,9 @@ use mathlib.Core.Path.{_≡_, subst}
 use native.Mathlib.Omega.{arith}
 use Rattle.channel.specs.Judge.{LiesAt}
 use Rattle.channel.specs.declared.judge.Spot.{Spot}
-use Rattle.channel.specs.declared.judge.Spot.the-variants.{Missing, Known, Far}
+use Rattle.channel.specs.declared.judge.Spot.the-variants.{Next, Missing, Known, Far}
 use Rattle.channel.proofs.Opening.{ahead-some, ahead-frame}
-use Rattle.channel.proofs.Frames.{frame-ahead, frame-missing, frame-known, frame-far}
+use Rattle.channel.proofs.Frames.{frame-next, frame-ahead, frame-missing, frame-known, frame-far}
 use borrow.Author.Needs.{needs}
 use Rattle.channel.proofs.arrive.Statement.{statement}
 use Rattle.channel.proofs.arrive.Tie as tie
@@ -13,6 +13,7 @@ use Rattle.channel.proofs.arrive.Reads as reads
 use Rattle.channel.proofs.arrive.Lts as lts
 use Rattle.channel.proofs.act.ahead.Reads as ahead-reads
 use Rattle.channel.proofs.act.filled.Reads as filled-reads
+use Rattle.channel.proofs.act.handed_up.Reads as handed-up-reads
 use Rattle.channel.proofs.act.restarted.Reads as restarted-reads
 use Rattle.channel.proofs.act.sent_back.Reads as sent-back-reads
 use Rattle.channel.proofs.record.Record.spot.Reads as spot-reads
@@ -47,20 +48,26 @@ ahead-requires c κs =
 enum-told : tie.Need-enum-told
 enum-told c = search needs
 
-filled-requires : tie.Need-filled-requires
-filled-requires c κs =
-    let l = c .before .before .before .before .before .before in
-    let p = at-entry l .pre in
-    ((p .0 .0, lies l Missing (c .before .before .before .before .enum-told .given .1)), p .1 .0)
+handed-up-requires : tie.Need-handed-up-requires
+handed-up-requires c κs = search needs
 
 enum-told-2 : tie.Need-enum-told-2
 enum-told-2 c = search needs
 
-sent-back-requires : tie.Need-sent-back-requires
-sent-back-requires c κs = search needs
+filled-requires : tie.Need-filled-requires
+filled-requires c κs =
+    let l = c .before .before .before .before .before .before in
+    let p = at-entry l .pre in
+    ((p .0 .0, lies l Missing (c .before .before .before .before .enum-told2 .given .1)), p .1 .0)
 
 enum-told-3 : tie.Need-enum-told-3
 enum-told-3 c = search needs
+
+sent-back-requires : tie.Need-sent-back-requires
+sent-back-requires c κs = search needs
+
+enum-told-4 : tie.Need-enum-told-4
+enum-told-4 c = search needs
 
 restarted-requires : tie.Need-restarted-requires
 restarted-requires c κs = search needs
@@ -84,7 +91,8 @@ returns : tie.Need-returns
 returns c =
     let l = c .before .before .before .before .before .before .before .before .before .before .before .before .before .before .before .before .before .before .before in
     let a = at-entry l .args in
-    frame-ahead (a .s .0) (a .handle) (a .time) (at-entry l .pre .0 .0) (a .returned .now) (lies l _ (c .before .before .before .before .before .before .before .before .before .before .before .before .before .before .before .before .before .d .given .1)) (c .before .before .before .before .before .before .before .before .before .before .ahead .ensures)
+    let p = at-entry l .pre in
+    frame-ahead (a .s .0) (a .handle) (a .time) (p .0 .0) (a .returned .now) (lies l _ (c .before .before .before .before .before .before .before .before .before .before .before .before .before .before .before .before .before .d .given .1)) (c .before .before .before .before .before .before .before .before .before .before .ahead .ensures)
 
 same-length-6 : tie.Need-same-length-6
 same-length-6 c = search needs
@@ -95,15 +103,17 @@ same-length-7 c = search needs
 same-length-8 : tie.Need-same-length-8
 same-length-8 c = search needs
 
-same-length-9 : tie.Need-same-length-9
-same-length-9 c = search needs
-
 returns-2 : tie.Need-returns-2
 returns-2 c =
-    let l = c .before .before .before .before .before .before .before .before .before .before .before .before .before .before .before in
+    let l = c .before .before .before .before .before .before .before .before .before in
     let a = at-entry l .args in
-    frame-missing (a .s .0) (a .handle) (a .time) (at-entry l .pre .0 .0) (a .returned .now) (a .nack .now)
-    (lies l Missing (c .before .before .before .before .before .before .before .before .before .before .before .before .before .enum-told .given .1)) (c .before .before .before .before .before .before .before .before .filled .ensures)
+    let p = at-entry l .pre in
+    let e = c .before .before .before .before .handed-up .ensures in
+    frame-next (a .s .0) (a .handle) (a .time) (p .0 .0) (a .up .now) (a .returned .now) (a .nack .now) (p .0 .1) (lies l Next (c .before .before .before .before .before .before .before .enum-told .given .1))
+    (omega (arith, p .1 .0)) (e .0) (e .1) (e .2)
+
+same-length-9 : tie.Need-same-length-9
+same-length-9 c = search needs
 
 same-length-10 : tie.Need-same-length-10
 same-length-10 c = search needs
@@ -116,12 +126,11 @@ same-length-12 c = search needs
 
 returns-3 : tie.Need-returns-3
 returns-3 c =
-    let l = c .before .before .before .before .before .before .before .before .before in
+    let l = c .before .before .before .before .before .before .before .before .before .before .before .before .before .before .before in
     let a = at-entry l .args in
     let p = at-entry l .pre in
-    let e = c .before .before .before .before .sent-back .ensures in
-    frame-known (a .s .0) (a .handle) (a .time) (p .0 .0) (a .up .now) (a .returned .now) (a .nack .now) (lies l Known (c .before .before .before .before .before .before .before .enum-told2 .given .1))
-    (omega (arith, p .1 .1)) (e .0) (e .1) (e .2)
+    frame-missing (a .s .0) (a .handle) (a .time) (p .0 .0) (a .returned .now) (a .nack .now) (lies l Missing (c .before .before .before .before .before .before .before .before .before .before .before .before .before .enum-told2 .given .1))
+    (c .before .before .before .before .before .before .before .before .filled .ensures)
 
 same-length-13 : tie.Need-same-length-13
 same-length-13 c = search needs
@@ -132,18 +141,36 @@ same-length-14 c = search needs
 same-length-15 : tie.Need-same-length-15
 same-length-15 c = search needs
 
+returns-4 : tie.Need-returns-4
+returns-4 c =
+    let l = c .before .before .before .before .before .before .before .before .before in
+    let a = at-entry l .args in
+    let p = at-entry l .pre in
+    let e = c .before .before .before .before .sent-back .ensures in
+    frame-known (a .s .0) (a .handle) (a .time) (p .0 .0) (a .up .now) (a .returned .now) (a .nack .now) (lies l Known (c .before .before .before .before .before .before .before .enum-told3 .given .1))
+    (omega (arith, p .1 .1)) (e .0) (e .1) (e .2)
+
 same-length-16 : tie.Need-same-length-16
 same-length-16 c = search needs
 
 same-length-17 : tie.Need-same-length-17
 same-length-17 c = search needs
 
-returns-4 : tie.Need-returns-4
-returns-4 c =
+same-length-18 : tie.Need-same-length-18
+same-length-18 c = search needs
+
+same-length-19 : tie.Need-same-length-19
+same-length-19 c = search needs
+
+same-length-20 : tie.Need-same-length-20
+same-length-20 c = search needs
+
+returns-5 : tie.Need-returns-5
+returns-5 c =
     let l = c .before .before .before .before .before .before .before .before .before .before .before .before .before .before in
     let a = at-entry l .args in
-    frame-far (a .s .0) (a .handle) (a .time) (at-entry l .pre .0 .0) (a .nack .now) (lies l Far (c .before .before .before .before .before .before .before .before .before .before .before .before .enum-told3 .given .1))
-    (c .before .before .before .before .before .before .restarted .ensures)
+    let p = at-entry l .pre in
+    frame-far (a .s .0) (a .handle) (a .time) (p .0 .0) (a .nack .now) (lies l Far (c .before .before .before .before .before .before .before .before .before .before .before .before .enum-told4 .given .1)) (c .before .before .before .before .before .before .restarted .ensures)
 
 pub arrive-spec : {M : Type 1} → statement M
 arrive-spec =
@@ -154,10 +181,12 @@ arrive-spec =
     sub-ahead
     ahead-requires
     enum-told
-    filled-requires
+    handed-up-requires
     enum-told-2
-    sent-back-requires
+    filled-requires
     enum-told-3
+    sent-back-requires
+    enum-told-4
     restarted-requires
     same-length
     same-length-2
@@ -168,8 +197,8 @@ arrive-spec =
     same-length-6
     same-length-7
     same-length-8
-    same-length-9
     returns-2
+    same-length-9
     same-length-10
     same-length-11
     same-length-12
@@ -177,6 +206,10 @@ arrive-spec =
     same-length-13
     same-length-14
     same-length-15
+    returns-4
     same-length-16
     same-length-17
-    returns-4)
+    same-length-18
+    same-length-19
+    same-length-20
+    returns-5)

@@ -1,17 +1,20 @@
--- `tick` meets its contract: a number refuses it (Calling), or it comes to an open record (Reminders).
+-- `tick` meets its contract: a number refuses it (Calling), or M moves on up to the time that `stale_before` gives (Reminders).
 use mathlib.Core.Path.{refl}
+use native.Mathlib.Omega.{arith}
 use Rattle.larq.specs.Events.{tick}
 use Rattle.channel.specs.Call.{Parts, Buffers, parts, buffers}
 use Rattle.channel.proofs.Opening.{stopped-by, opened-by, enough, ready}
 use Rattle.channel.proofs.Calling.{called-stopped}
-use Rattle.channel.proofs.Reminders.{called-tick}
+use Rattle.channel.proofs.Reminders.{tick-room, tick-did, called-tick}
 use borrow.Author.Needs.{needs}
 use Rattle.channel.proofs.tick.Statement.{statement}
 use Rattle.channel.proofs.tick.Tie as tie
 use Rattle.channel.proofs.tick.Reads as reads
 use Rattle.channel.proofs.tick.Lts as lts
-use Rattle.channel.proofs.act.ticked.Reads as ticked-reads
+use Rattle.channel.proofs.act.settle.Reads as settle-reads
+use Rattle.channel.proofs.act.stale_before.Reads as stale-before-reads
 use Rattle.channel.proofs.judge.judge.Reads as judge-reads
+use Rattle.channel.proofs.record.Record.arrived.Reads as arrived-reads
 use Rattle.channel.proofs.refused.Reads as refused-reads
 
 -- what the call was lent
@@ -33,11 +36,25 @@ refused-requires c κs = search needs
 enum-known-r : tie.Need-enum-known-r
 enum-known-r c = search needs
 
-ticked-requires : tie.Need-ticked-requires
-ticked-requires c κs =
-    let e = c .before .before .before .before .before .before .before .before .before .before .before .before .before .before .before .before in
-    let opened = opened-by (lent e) (lends e) 0 (e .args .time) (c .before .before .before .before .before .before .before .judge .ensures) (c .before .before .before .before .before .r .given .1) in
-    (ready opened, enough opened .up-room)
+arrived-requires : tie.Need-arrived-requires
+arrived-requires c κs = search needs
+
+stale-before-requires : tie.Need-stale-before-requires
+stale-before-requires c κs = search needs
+
+settle-requires : tie.Need-settle-requires
+settle-requires c κs =
+    let e = c .before .before .before .before .before .before .before .before .before .before .before .before .before .before .before .before .before .before in
+    let opened = opened-by (lent e) (lends e) 0 (e .args .time) (c .before .before .before .before .before .before .before .before .before .judge .ensures) (c .before .before .before .before .before .before .before .r .given .1) in
+    let is-ready = ready opened in
+    let to = c .before .before .before .before .before .arrived .ensures in (
+      is-ready .sized,
+      (
+        rw (to .1) (is-ready .oldest),
+        omega arith,
+        tick-room is-ready (e .args .time) (c .stale-before .ensures) (to .0) (to .1) (to .2) (e .args .up .now) (enough opened .up-room),
+      ),
+    )
 
 same-length : tie.Need-same-length
 same-length c = search needs
@@ -64,9 +81,11 @@ same-length-6 c = search needs
 
 returns-2 : tie.Need-returns-2
 returns-2 c =
-    let e = c .before .before .before .before .before .before .before .before .before .before .before .before .before .before .before .before .before .before .before .before .before in
-    let opened = opened-by (lent e) (lends e) 0 (e .args .time) (c .before .before .before .before .before .before .before .before .before .before .before .before .judge .ensures) (c .before .before .before .before .before .before .before .before .before .before .r .given .1) in
-    called-tick opened (c .before .before .before .before .ticked .ensures)
+    let e = c .before .before .before .before .before .before .before .before .before .before .before .before .before .before .before .before .before .before .before .before .before .before .before in
+    let opened = opened-by (lent e) (lends e) 0 (e .args .time) (c .before .before .before .before .before .before .before .before .before .before .before .before .before .before .judge .ensures) (c .before .before .before .before .before .before .before .before .before .before .before .before .r .given .1) in
+    let to = c .before .before .before .before .before .before .before .before .before .before .arrived .ensures in
+    called-tick opened
+    (tick-did (ready opened) (e .args .time) (c .before .before .before .before .before .stale-before .ensures) (to .0) (to .1) (to .2) (c .before .before .before .before .settle .ensures) (enough opened .up-room))
 
 pub tick-spec : {M : Type 1} → statement M
 tick-spec =
@@ -76,7 +95,9 @@ tick-spec =
     enum-known-n
     refused-requires
     enum-known-r
-    ticked-requires
+    arrived-requires
+    stale-before-requires
+    settle-requires
     same-length
     same-length-2
     returns

@@ -1,23 +1,25 @@
 -- `ahead` meets its contract: what each call leaves is handed to the laws of the step ahead (StepAhead).
-use Prim.Native.Nat.{_+_, _-_, _≤_}
-use mathlib.Core.Path.{_≡_, refl, ap, _∙_}
+use mathlib.Core.Path.{refl, _∙_}
 use native.Mathlib.Omega.{arith}
-use lib.ListN.{length}
 use Rattle.channel.proofs.Laying.{laid-length}
-use Rattle.channel.proofs.StepAhead.{handed-room, handed-few, entered-sized, settle-room, ahead-did}
+use Rattle.channel.proofs.StepAhead.{handed-room, handed-few, count-room, settle-sized, settle-room, ahead-did}
 use borrow.Author.Needs.{needs}
 use Rattle.channel.proofs.act.ahead.Statement.{statement}
 use Rattle.channel.proofs.act.ahead.Tie as tie
 use Rattle.channel.proofs.act.ahead.Reads as reads
 use Rattle.channel.proofs.act.ahead.Lts as lts
-use Rattle.channel.proofs.act.enter.Reads as enter-reads
+use Rattle.channel.proofs.act.bring.Reads as bring-reads
 use Rattle.channel.proofs.act.settle.Reads as settle-reads
 use Rattle.channel.proofs.record.Record.grown.Reads as grown-reads
 use Rattle.channel.proofs.window.hand.Reads as hand-reads
+use Rattle.channel.proofs.window.miss.Reads as miss-reads
 
 -- from a call back to the one before, and to the entry
-abbrev at-hand : tie.After-enter → tie.After-hand
-at-hand c = c .before .before .before .before .before .before .before
+abbrev at-miss : tie.After-bring → tie.After-miss
+at-miss c = c .before .before .before .before .before .before .before .before .before
+
+abbrev at-hand : tie.After-miss → tie.After-hand
+at-hand c = c .before .before .before .before .before .before
 
 abbrev at-grown : tie.After-hand → tie.After-grown
 at-grown c = c .before .before .before .before
@@ -30,29 +32,37 @@ grown-requires c κs = search needs
 
 hand-requires : tie.Need-hand-requires
 hand-requires c κs =
-    let e = c .before .before .before in
-    let p = at-entry e .pre in
-    ((p .0 .0 .sized .handles, p .0 .0 .sized .marks), omega (arith, p .1 .0 .0, handed-room (p .0 .0) (p .0 .1) (p .1 .1) (e .grown .ensures)))
+    let g = c .before .before .before in
+    let p = at-entry g .pre in
+    ((p .0 .0 .sized .handles, p .0 .0 .sized .marks), omega (arith, p .1 .0 .0, handed-room (p .0 .0) (p .0 .1) (p .1 .1) (g .grown .ensures)))
 
-enter-requires : tie.Need-enter-requires
-enter-requires c κs = search needs
+miss-requires : tie.Need-miss-requires
+miss-requires c κs =
+    let g = at-grown (c .before .before .before .before .before) in
+    let p = at-entry g .pre in
+    ((p .0 .0 .sized .words, p .0 .0 .sized .marks), omega (arith, p .1 .0 .1, count-room (p .0 .0) (p .0 .1) (p .1 .1) (g .grown .ensures)))
 
-sub-settle : tie.Need-sub-settle
-sub-settle c =
-    let h = at-hand (c .before .before .before .before .before .before .before .before .before .before .before .before .before .before) in
+bring-requires : tie.Need-bring-requires
+bring-requires c κs =
+    let m = c .before .before .before .before .before .before .before .before in
+    let s = at-entry (at-grown (at-hand m)) .pre .0 .0 .sized in
+    (s .handles, m .miss .kept .1 .0 ∙ s .marks)
+
+sub-t33 : tie.Need-sub-t33
+sub-t33 c =
+    let h = at-hand (at-miss (c .before .before .before .before .before .before)) in
     let g = at-grown h in
     let p = at-entry g .pre in
     omega (arith, h .hand .ensures .end-is, handed-few (p .0 .0) (p .0 .1) (p .1 .1) (g .grown .ensures))
 
 settle-requires : tie.Need-settle-requires
 settle-requires c κs =
-    let e = c .before .before .before .before .before .before .before .before .before .before .before .before .before .before in
-    let h = at-hand e in
+    let e = c .before .before .before .before .before .before .before .before .before .before in
+    let m = at-miss e in
+    let h = at-hand m in
     let g = at-grown h in
-    let p = at-entry g .pre in (
-      entered-sized (p .0 .0) (p .0 .1) (p .1 .1) (g .grown .ensures) (p .1 .0 .0) (p .1 .0 .1) (h .hand .ensures) (e .enter .ensures .1),
-      settle-room (p .0 .0) (p .0 .1) (p .1 .1) (g .grown .ensures) (p .1 .0 .0) (p .1 .0 .1) (h .hand .ensures) (e .enter .ensures .1),
-    )
+    let p = at-entry g .pre in
+    (settle-sized (p .0 .0) (p .0 .1) (p .1 .1) (g .grown .ensures) (p .1 .0 .0) (p .1 .0 .1) (h .hand .ensures) (m .miss .ensures .1) (e .bring .ensures .0) (e .bring .ensures .1), settle-room (p .0 .0) (p .0 .1) (p .1 .1) (g .grown .ensures) (p .1 .0 .0) (p .1 .0 .1) (h .hand .ensures) (m .miss .ensures .1) (e .bring .ensures .0) (e .bring .ensures .1))
 
 same-length : tie.Need-same-length
 same-length c = search needs
@@ -65,19 +75,19 @@ same-length-3 c = search needs
 
 same-length-4 : tie.Need-same-length-4
 same-length-4 c =
-    laid-length (c .before .before .before .before .settle .ensures .up) ∙ laid-length (at-hand (c .before .before .before .before .before .before .before .before .before .before .before .before .before .before .before .before .before .before .before) .hand .ensures)
+    laid-length (c .before .before .before .before .settle .ensures .up) ∙ laid-length (at-hand (at-miss (c .before .before .before .before .before .before .before .before .before .before .before .before .before .before .before)) .hand .ensures)
 
 same-length-5 : tie.Need-same-length-5
 same-length-5 c = search needs
 
 returns : tie.Need-returns
 returns c =
-    let e = c .before .before .before .before .before .before .before .before .before .before .before .before .before .before .before .before .before .before .before in
-    let h = at-hand e in
+    let e = c .before .before .before .before .before .before .before .before .before .before .before .before .before .before .before in
+    let m = at-miss e in
+    let h = at-hand m in
     let g = at-grown h in
     let p = at-entry g .pre in
-    ahead-did (p .0 .0) (p .0 .1) (p .1 .1) (g .grown .ensures) (p .1 .0 .0) (p .1 .0 .1) (h .hand .ensures) (e .enter .ensures .1)
-    (e .enter .ensures .0) (c .before .before .before .before .settle .ensures)
+    ahead-did (p .0 .0) (p .0 .1) (p .1 .1) (g .grown .ensures) (p .1 .0 .0) (p .1 .0 .1) (h .hand .ensures) (m .miss .ensures .1) (e .bring .ensures .0) (e .bring .ensures .1) refl (m .miss .ensures .0) refl (c .before .before .before .before .settle .ensures)
 
 pub ahead-spec : {M : Type 1} → statement M
 ahead-spec =
@@ -85,8 +95,9 @@ ahead-spec =
     (tie.spec
     grown-requires
     hand-requires
-    enter-requires
-    sub-settle
+    miss-requires
+    bring-requires
+    sub-t33
     settle-requires
     same-length
     same-length-2

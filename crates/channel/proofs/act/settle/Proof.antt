@@ -18,10 +18,10 @@ settled-requires c κs = search needs
 stored-requires : tie.Need-stored-requires
 stored-requires c κs = search needs
 
-add-t19 : tie.Need-add-t19
-add-t19 c =
-    let a = c .before .before .before .before .before .before .before .before .before .before .before .before .before .before .before in
-    let e = c .before .before .before .before .before .before .before .before .settled .ensures in
+add-t18 : tie.Need-add-t18
+add-t18 c =
+    let a = c .before .before .before .before .before .before .before .before .before .before .before .before .before .before .before .before in
+    let e = c .before .before .before .before .before .before .before .before .before .settled .ensures in
     omega
     (arith, e .lost, a .pre .1, lost-few (a .args .r) (a .args .until) (a .args .words .now) (a .args .handles .now) (a .args .marks .now) (a .pre .1 .0))
 
@@ -33,20 +33,20 @@ same-length-2 c = search needs
 
 returns : tie.Need-returns
 returns c =
-    let a = c .before .before .before .before .before .before .before .before .before .before .before .before .before .before .before in
-    let done = c .before .before .before .before .before .before .before .before .settled in
+    let a = c .before .before .before .before .before .before .before .before .before .before .before .before .before .before .before .before in
+    let done = c .before .before .before .before .before .before .before .before .before .settled in
     record {
       number = refl;
       up = done .ensures .up;
       returned = refl;
       nack = refl;
-      lost-all = ap (λ n. a .args .lost + n) (done .ensures .lost);
+      lost = ap (λ n. a .args .had .lost + n) (done .ensures .lost);
       became =
-          ap (λ w. recordOf w (a .args .handles .now) (a .args .marks .now)) (c .before .before .before .stored .ensures)
-          ∙ settled-record (a .args .r) (a .args .until) (a .args .words .now) (a .args .handles .now) (a .args .marks .now) (a .args .at)
+          ap (λ w. recordOf w (a .args .handles .now) (a .args .marks .now)) (c .before .before .before .before .stored .ensures)
+          ∙ settled-record (a .args .r) (a .args .until) (a .args .words .now) (a .args .handles .now) (a .args .marks .now) (a .args .had .up)
           (a .args .up .now) _ (done .result) (omega (arith, a .pre .0)) (a .pre .1 .0) (done .ensures);
     }
 
 pub settle-spec : {M : Type 1} → statement M
 settle-spec =
-    tie.close (tie.spec settled-requires stored-requires add-t19 same-length same-length-2 returns)
+    tie.close (tie.spec settled-requires stored-requires add-t18 same-length same-length-2 returns)
