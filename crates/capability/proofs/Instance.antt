@@ -7,7 +7,8 @@ use native.Mathlib.Omega.{arith}
 use Rattle.capability.specs.declared.Frame.{Frame}
 use Rattle.capability.specs.declared.Station.{Station}
 use Rattle.capability.specs.Sets.{currentTx}
-use Rattle.capability.specs.Events.{fresh}
+use Rattle.capability.specs.Answers.{refused}
+use Rattle.capability.specs.Events.{fresh, received}
 use Rattle.capability.specs.Flags.{_isIn_}
 use Rattle.capability.specs.Run.{Event, useOf, periodEnd, frameWith, run, periodEnds, EachUse}
 use Rattle.capability.proofs.Aging.{ages}
@@ -42,3 +43,10 @@ told = ages 5 0b0010_0000 station later refl .told refl
 pub worked-out : run station (useOf 0b0010_0000 ∷ later) .tx ≡ record { new = 0b1000_0001; previous = 0b1000_0101; oldest = 0b1010_0001 }
 unfolding run
 worked-out = refl
+
+-- a frame of opcode 1 is taken, one of opcode 2 is refused by number 30 and leaves the station
+pub opcode-1-taken : received station 1 heard .number ≡ 0
+opcode-1-taken = refl
+
+pub opcode-2-refused : received station 2 heard ≡ refused 30 station
+opcode-2-refused = refl
