@@ -20,6 +20,5 @@ pub mod Restarting
 pub mod Opening
 pub mod Calling
 pub mod Frames
-pub mod Zeroing
 pub mod Reminders
 pub mod OneOutcome

@@ -9,7 +9,7 @@ use Rattle.ring.specs.Ring.{size, next}
 use Rattle.larq.specs.Channel.{Cell, waiting}
 use Rattle.larq.specs.Events.{restarted, opened, close, close-on, act-on}
 use Rattle.channel.specs.Place.{window, cellAt, spanOf, recordWith, recordOf}
-use Rattle.channel.specs.Call.{Wrote, Parts, Buffers, parts, buffers, Did, Called}
+use Rattle.channel.specs.Call.{Wrote, Says, Parts, Buffers, parts, buffers, Did, Called}
 use Rattle.channel.specs.Slots.{waitingOf, Laid}
 use Rattle.channel.specs.Steps.{Ready, recordIn, spanIn, headed}
 use Rattle.channel.specs.declared.Answer.{Answer}
@@ -41,21 +41,20 @@ module _ {r : Record} {W H K : List ℕ} (is-ready : Ready r W H K) where
       rw (waiting-window W H K (r .oldest .0) (spanIn r), ← e)
       (wrote-front laid (omega (arith, waiting-short H K (r .oldest .0) n, is-ready .narrow)))
 
-  pub restarted-did : {n s x t : ℕ} {w U B b : List ℕ} {end : ℕ} {to : Record} → n ≡ spanIn r → Laid (waitingOf H K (r .oldest .0) n) 0 B b end
-      → 32 ≤ length U → 32 ≤ length B → to .current .0 ≡ s → to .oldest .0 ≡ next s → to .latest ≡ t
-      → w ≡ headed W (to .current .0) (to .oldest .0) (to .latest)
-      → Did (restarted (recordIn r W H K) t s x) (parts W H K) (parts w H K) (buffers U B []) (buffers (set U 0 x) b [])
-      (record { number = 0; up = 1; returned = end; nack = 0; lost = 0 })
-  restarted-did {n} {s} {x} {t} {w} {U} {B} {b} {end} {to} e laid room-up room-returned ec eo el ew =
+  pub restarted-did : {n s x t : ℕ} {w U u B b : List ℕ} {end : ℕ} {a : Answer} → n ≡ spanIn r → Laid (waitingOf H K (r .oldest .0) n) 0 B b end
+      → 32 ≤ length U → 32 ≤ length B → w ≡ headed W s (next s) t → u ≡ set U 0 x → Says 0 1 0 0 0 a
+      → Did (restarted (recordIn r W H K) t s x) (parts W H K) (parts w H K) (buffers U B []) (buffers u b [])
+      (record { number = a .number; up = a .up; returned = end; nack = a .nack; lost = a .lost })
+  restarted-did {s = s} {x = x} {t = t} {U = U} e laid room-up room-returned ew eu says =
       record {
         answered = record {
-          number = refl;
-          up = wrote-one U x (omega arith);
+          number = says .number;
+          up = rw (eu, says .up) (wrote-one U x (omega arith));
           returned = wrote-waiting e laid room-returned;
-          nack = wrote-none [];
-          lost = refl;
+          nack = rw (says .nack) (wrote-none []);
+          lost = says .lost;
         };
-        became = rw (ew, ec, eo, el) (record-opened W H K s t (omega (arith, is-ready .sized .words)));
+        became = rw ew (record-opened W H K s t (omega (arith, is-ready .sized .words)));
       }
 
   -- the parts are zeros, each over its length

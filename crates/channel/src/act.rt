@@ -15,11 +15,11 @@ use crate::record::Record;
 use crate::window::hand;
 use crate::window::miss;
 use crate::window::slot;
-use crate::zero::zero_handles;
-use crate::zero::zero_marks;
-use crate::zero::zero_words;
 use larq::HOLD;
 use ring::Seq;
+use zeros::zero_u8;
+use zeros::zero_u32;
+use zeros::zero_u64;
 
 // How the last number of a step ahead comes: a frame brings it, and it waits with its handle; or it is only told of, and is missing too.
 pub(crate) enum Last {
@@ -183,16 +183,10 @@ pub(crate) fn restarted(
     requires { ⌜ (32 ≤ length (now up)) × (32 ≤ length (now returned)) ⌝ }
     ensures { λ a. ⌜ Did (restarted (recordIn r (now (words .entry)) (now (handles .entry)) (now (marks .entry))) time (s .0) handle) (parts (now (words .entry)) (now (handles .entry)) (now (marks .entry))) (parts (now (words .exit)) (now (handles .entry)) (now (marks .entry))) (buffers (now (up .entry)) (now (returned .entry)) []) (buffers (now (up .exit)) (now (returned .exit)) []) a ⌝ }
 {
-    let count = hand(handles, marks, r.oldest, r.span(), returned, 0);
-    up[0] = handle;
-    Record::opened(s, time).stored(words);
-    Answer {
-        number: 0,
-        up: 1,
-        returned: count,
-        nack: 0,
-        lost: 0,
-    }
+    let back = hand(handles, marks, r.oldest, r.span(), returned, 0);
+    let mut answer = handed_up(words, up, s, handle, time);
+    answer.returned = back;
+    answer
 }
 
 // Nothing but the latest time changes.
@@ -229,9 +223,9 @@ pub(crate) fn closed(
     ensures { λ a. ⌜ Did (close-on (recordIn r (now (words .entry)) (now (handles .entry)) (now (marks .entry)))) (parts (now (words .entry)) (now (handles .entry)) (now (marks .entry))) (parts (now (words .exit)) (now (handles .exit)) (now (marks .exit))) (buffers [] (now (returned .entry)) []) (buffers [] (now (returned .exit)) []) a ⌝ }
 {
     let count = hand(handles, marks, r.oldest, r.span(), returned, 0);
-    zero_words(words);
-    zero_handles(handles);
-    zero_marks(marks);
+    zero_u64(words);
+    zero_u32(handles);
+    zero_u8(marks);
     Answer {
         number: 0,
         up: 0,

@@ -10,7 +10,6 @@ mod act;
 mod judge;
 mod record;
 mod window;
-mod zero;
 
 use crate::act::Counts;
 use crate::act::Last;

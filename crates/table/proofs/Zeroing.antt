@@ -1,4 +1,4 @@
--- A slice whose first i elements are zeros: what a loop that clears it from the front keeps. And a table of zeros is the empty table. Assumes nothing.
+-- A table of zeros is the empty table: every place of it is free. Assumes nothing.
 use Prim.Native.Nat.{ℕ, zero, suc, _+_, _-_, _*_, _≤_, _<_}
 use mathlib.Core.Path.{_≡_, refl, ap, _∙_}
 use mathlib.Core.Bool.{true, false}
@@ -17,28 +17,6 @@ use Rattle.table.proofs.Places.{same-places}
 use Rattle.table.proofs.Stored.{zeros-free}
 use Rattle.table.proofs.Ways.{whole-sizes}
 
-pub record Zeroed (before now : List ℕ) (end i : ℕ) : Type 0 where
-  pub all : end ≡ length before
-  pub sized : length now ≡ length before
-  pub within : i ≤ end
-  pub is : now ≡ replicate i 0 ++ drop i before
-
-module _ {before now : List ℕ} {end i : ℕ} (z : Zeroed before now end i) where
-  pub zeroed-more : i < end → Zeroed before (set now i 0) end (i + 1)
-  zeroed-more h =
-      record {
-        all = z .all;
-        sized = simp length-set (z .sized);
-        within = omega arith;
-        is = ap (λ (l : List ℕ). set l i 0) (z .is) ∙ fill-more i 0 before (omega (arith, z .all));
-      }
-
-  pub zeroed-all : end ≤ i → now ≡ replicate (length before) 0
-  zeroed-all h =
-      let e : i ≡ length before = omega (arith, z .all, z .within) in
-      z .is ∙ rw e (ap (λ (l : List ℕ). replicate (length before) 0 ++ l) (drop-length before) ∙ append-nil (replicate (length before) 0))
-
--- every place of a table of zeros is free
 take-zeros : (n m : ℕ) → n ≤ m → take n (replicate m (let v : ℕ = 0 in v)) ≡ replicate n 0
 take-zeros zero m h = refl
 take-zeros (suc n) zero h = absurd (let z : ⊥ = omega arith in z)

@@ -1,11 +1,12 @@
 // The table of 64 places that the host lends: what its slices hold, the place of a key, where an event goes, the empty table, and a look at a
 // channel's record (document 01, 'The channel table').
+mod emptying;
 mod key;
 mod looking;
 mod lookup;
 mod way;
-mod zeros;
 
+pub use emptying::empty;
 pub use key::address;
 pub use key::first_word;
 pub use looking::View;
@@ -15,7 +16,6 @@ pub use way::DataWay;
 pub use way::Way;
 pub use way::data_way_of;
 pub use way::way_of;
-pub use zeros::empty;
 
 // The layout of the lent table: its places, and how many elements of each slice belong to one of them.
 pub const PLACES: usize = 64;

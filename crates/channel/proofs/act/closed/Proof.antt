@@ -7,9 +7,6 @@ use Rattle.channel.proofs.act.closed.Reads as reads
 use Rattle.channel.proofs.act.closed.Lts as lts
 use Rattle.channel.proofs.record.Record.span.Reads as span-reads
 use Rattle.channel.proofs.window.hand.Reads as hand-reads
-use Rattle.channel.proofs.zero.zero_handles.Reads as zero-handles-reads
-use Rattle.channel.proofs.zero.zero_marks.Reads as zero-marks-reads
-use Rattle.channel.proofs.zero.zero_words.Reads as zero-words-reads
 
 span-requires : tie.Need-span-requires
 span-requires c κs = search needs
@@ -17,14 +14,14 @@ span-requires c κs = search needs
 hand-requires : tie.Need-hand-requires
 hand-requires c κs = search needs
 
-zero-words-requires : tie.Need-zero-words-requires
-zero-words-requires c κs = search needs
+zero-u64-requires : tie.Need-zero-u64-requires
+zero-u64-requires c κs = search needs
 
-zero-handles-requires : tie.Need-zero-handles-requires
-zero-handles-requires c κs = search needs
+zero-u32-requires : tie.Need-zero-u32-requires
+zero-u32-requires c κs = search needs
 
-zero-marks-requires : tie.Need-zero-marks-requires
-zero-marks-requires c κs = search needs
+zero-u8-requires : tie.Need-zero-u8-requires
+zero-u8-requires c κs = search needs
 
 same-length : tie.Need-same-length
 same-length c = search needs
@@ -41,8 +38,8 @@ same-length-4 c = search needs
 returns : tie.Need-returns
 returns c =
     let p = c .before .before .before .before .before .before .before .before .before .before .before .before .before .before .before .before .before .before .before .before .before .before .before .pre in
-    closed-did (p .0) (c .before .before .before .before .before .before .before .before .before .before .before .before .before .before .before .before .span .ensures) (c .before .before .before .before .before .before .before .before .before .before .before .before .before .before .hand .ensures) (p .1) (c .before .before .before .before .before .before .before .before .before .before .zero-words .ensures) (c .before .before .before .before .before .before .zero-handles .ensures)
-    (c .before .before .zero-marks .ensures)
+    closed-did (p .0) (c .before .before .before .before .before .before .before .before .before .before .before .before .before .before .before .before .span .ensures) (c .before .before .before .before .before .before .before .before .before .before .before .before .before .before .hand .ensures) (p .1) (c .before .before .before .before .before .before .before .before .before .before .zero-u64 .ensures) (c .before .before .before .before .before .before .zero-u32 .ensures)
+    (c .before .before .zero-u8 .ensures)
 
 pub closed-spec : {M : Type 1} → statement M
 closed-spec =
@@ -50,9 +47,9 @@ closed-spec =
     (tie.spec
     span-requires
     hand-requires
-    zero-words-requires
-    zero-handles-requires
-    zero-marks-requires
+    zero-u64-requires
+    zero-u32-requires
+    zero-u8-requires
     same-length
     same-length-2
     same-length-3

@@ -1,33 +1,27 @@
-// Zeros for the parts of a place that is freed, as in an empty table (document 01, 'Close').
+// Zeros all over a slice, whatever its length: what a freed place and an empty table hold (document 01, 'Close' and 'The channel table').
 ghost use mathlib.Core.Path.{_≡_};
 ghost use lib.ListN.{length, replicate};
 
-pub(crate) fn zero_words(words: &mut [u64])
+pub fn zero_u64(words: &mut [u64])
     ensures { λ _. ⌜ now (words .exit) ≡ replicate (length (now (words .entry))) 0 ⌝ }
 {
-    let mut i: usize = 0;
-    while i < words.len() {
+    for i in 0..words.len() {
         words[i] = 0;
-        i += 1;
     }
 }
 
-pub(crate) fn zero_handles(handles: &mut [u32])
+pub fn zero_u32(handles: &mut [u32])
     ensures { λ _. ⌜ now (handles .exit) ≡ replicate (length (now (handles .entry))) 0 ⌝ }
 {
-    let mut i: usize = 0;
-    while i < handles.len() {
+    for i in 0..handles.len() {
         handles[i] = 0;
-        i += 1;
     }
 }
 
-pub(crate) fn zero_marks(marks: &mut [u8])
+pub fn zero_u8(marks: &mut [u8])
     ensures { λ _. ⌜ now (marks .exit) ≡ replicate (length (now (marks .entry))) 0 ⌝ }
 {
-    let mut i: usize = 0;
-    while i < marks.len() {
+    for i in 0..marks.len() {
         marks[i] = 0;
-        i += 1;
     }
 }

@@ -1,26 +1,23 @@
--- `zero_u32` meets its contract: after i turns the first i elements are zeros.
+-- `zero_u8` meets its contract: after i turns the first i elements are zeros.
 use mathlib.Core.Path.{refl}
 use borrow.Author.Fill.{fill-none}
 use borrow.Author.Needs.{needs}
 use Prim.Native.Nat.{_-_}
-use Rattle.table.proofs.Zeroing.{Zeroed, zeroed-more, zeroed-all}
-use Rattle.table.proofs.zeros.zero_u32.Statement.{statement}
-use Rattle.table.proofs.zeros.zero_u32.Tie as tie
+use Rattle.zeros.proofs.Zeroing.{Zeroed, zeroed-more, zeroed-all}
+use Rattle.zeros.proofs.zero_u8.Statement.{statement}
+use Rattle.zeros.proofs.zero_u8.Tie as tie
 
 abbrev Inv-loop : tie.InvT-loop
-Inv-loop handles₀ i₀ i-end handles i = Zeroed handles₀ handles i-end i
+Inv-loop marks₀ i₀ i-end marks i = Zeroed marks₀ marks i-end i
 
 abbrev μ-loop : tie.MeasureT-loop
-μ-loop handles₀ i₀ i-end handles i = i-end - i
+μ-loop marks₀ i₀ i-end marks i = i-end - i
 
 loop-holds : tie.Need-loop-holds Inv-loop μ-loop
 loop-holds c = record { all = refl; sized = refl; within = search needs; is = fill-none _ 0 }
 
-mul-handles : tie.Need-mul-handles Inv-loop μ-loop
-mul-handles c = search needs
-
-slice-write-handles : tie.Need-slice-write-handles Inv-loop μ-loop
-slice-write-handles c = search needs
+slice-write-marks : tie.Need-slice-write-marks Inv-loop μ-loop
+slice-write-marks c = search needs
 
 add-i : tie.Need-add-i Inv-loop μ-loop
 add-i c = search needs
@@ -37,15 +34,14 @@ same-length c = c .before .loop .inv .sized
 returns : tie.Need-returns Inv-loop μ-loop
 returns c = zeroed-all (c .before .loop .inv) (c .loop-test .left)
 
-pub zero-u32-spec : {M : Type 1} → statement M
-zero-u32-spec =
+pub zero-u8-spec : {M : Type 1} → statement M
+zero-u8-spec =
     tie.close
     (tie.spec
     Inv-loop
     μ-loop
     loop-holds
-    mul-handles
-    slice-write-handles
+    slice-write-marks
     add-i
     loop-less
     loop-again

@@ -1,33 +1,10 @@
 // A table as it is at the start: 64 free places, zeros everywhere (document 01, 'The channel table').
-ghost use mathlib.Core.Path.{_≡_};
-ghost use lib.ListN.{length, replicate};
 ghost use Rattle.table.specs.Table.{slices};
 ghost use Rattle.table.specs.Emptied.{Emptied};
 use crate::way::is_whole;
-
-fn zero_u64(words: &mut [u64])
-    ensures { λ _. ⌜ now (words .exit) ≡ replicate (length (now (words .entry))) 0 ⌝ }
-{
-    for i in 0..words.len() {
-        words[i] = 0;
-    }
-}
-
-fn zero_u32(handles: &mut [u32])
-    ensures { λ _. ⌜ now (handles .exit) ≡ replicate (length (now (handles .entry))) 0 ⌝ }
-{
-    for i in 0..handles.len() {
-        handles[i] = 0;
-    }
-}
-
-fn zero_u8(marks: &mut [u8])
-    ensures { λ _. ⌜ now (marks .exit) ≡ replicate (length (now (marks .entry))) 0 ⌝ }
-{
-    for i in 0..marks.len() {
-        marks[i] = 0;
-    }
-}
+use zeros::zero_u8;
+use zeros::zero_u32;
+use zeros::zero_u64;
 
 // Empties a table, whatever it held. Slices of another length are refused by number 1 and stay as they are.
 pub fn empty(keys: &mut [u64], words: &mut [u64], handles: &mut [u32], marks: &mut [u8]) -> u8

@@ -3,8 +3,8 @@ use mathlib.Core.Path.{sym, _∙_}
 use borrow.Author.Needs.{needs}
 use borrow.Author.Tests.{not-true, not-false}
 use Rattle.table.proofs.Zeroing.{kept, cleared}
-use Rattle.table.proofs.zeros.empty.Statement.{statement}
-use Rattle.table.proofs.zeros.empty.Tie as tie
+use Rattle.table.proofs.emptying.empty.Statement.{statement}
+use Rattle.table.proofs.emptying.empty.Tie as tie
 
 is-whole-requires : tie.Need-is-whole-requires
 is-whole-requires c κs = search needs

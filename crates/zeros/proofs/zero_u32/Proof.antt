@@ -1,20 +1,20 @@
--- `zero_handles` meets its contract: after i turns the first i entries are zeros (Zeroing).
-use Prim.Native.Nat.{_-_}
-use native.Mathlib.Omega.{arith}
+-- `zero_u32` meets its contract: after i turns the first i elements are zeros.
+use mathlib.Core.Path.{refl}
+use borrow.Author.Fill.{fill-none}
 use borrow.Author.Needs.{needs}
-use lib.ListN.{length}
-use Rattle.channel.proofs.Zeroing.{Zeros, zeros-start, zeros-turn, zeros-end}
-use Rattle.channel.proofs.zero.zero_handles.Statement.{statement}
-use Rattle.channel.proofs.zero.zero_handles.Tie as tie
+use Prim.Native.Nat.{_-_}
+use Rattle.zeros.proofs.Zeroing.{Zeroed, zeroed-more, zeroed-all}
+use Rattle.zeros.proofs.zero_u32.Statement.{statement}
+use Rattle.zeros.proofs.zero_u32.Tie as tie
 
 abbrev Inv-loop : tie.InvT-loop
-Inv-loop handles₀ i₀ handles i = Zeros handles₀ handles i
+Inv-loop handles₀ i₀ i-end handles i = Zeroed handles₀ handles i-end i
 
 abbrev μ-loop : tie.MeasureT-loop
-μ-loop handles₀ i₀ handles i = length handles₀ - i
+μ-loop handles₀ i₀ i-end handles i = i-end - i
 
 loop-holds : tie.Need-loop-holds Inv-loop μ-loop
-loop-holds c = zeros-start _
+loop-holds c = record { all = refl; sized = refl; within = search needs; is = fill-none _ 0 }
 
 mul-handles : tie.Need-mul-handles Inv-loop μ-loop
 mul-handles c = search needs
@@ -26,19 +26,19 @@ add-i : tie.Need-add-i Inv-loop μ-loop
 add-i c = search needs
 
 loop-less : tie.Need-loop-less Inv-loop μ-loop
-loop-less c = omega (arith, c .before .loop .inv .sized)
+loop-less c = search needs
 
 loop-again : tie.Need-loop-again Inv-loop μ-loop
-loop-again c = zeros-turn (c .before .loop .inv) (c .loop-test .taken)
+loop-again c = zeroed-more (c .before .loop .inv) (c .loop-test .taken)
 
 same-length : tie.Need-same-length Inv-loop μ-loop
 same-length c = c .before .loop .inv .sized
 
 returns : tie.Need-returns Inv-loop μ-loop
-returns c = zeros-end (c .before .loop .inv) (c .loop-test .left)
+returns c = zeroed-all (c .before .loop .inv) (c .loop-test .left)
 
-pub zero-handles-spec : {M : Type 1} → statement M
-zero-handles-spec =
+pub zero-u32-spec : {M : Type 1} → statement M
+zero-u32-spec =
     tie.close
     (tie.spec
     Inv-loop
