@@ -94,7 +94,9 @@ fn data(keys: &mut Keys, lent: Lent<'_>, key: Key<'_>, time: u64, number: u16, h
     };
     place.judge(time)?;
     let d = steps(place.current(), number);
-    Ok(if (1..=REACH).contains(&d) {
+    Ok(if d == 1 && place.span() == 0 {
+        place.hand_up(number, handle, time)
+    } else if (1..=REACH).contains(&d) {
         place.ahead(d, Some(handle), time)
     } else if d == 0 || d >= RING - REACH {
         place.behind(number, handle, time)
@@ -106,13 +108,7 @@ fn data(keys: &mut Keys, lent: Lent<'_>, key: Key<'_>, time: u64, number: u16, h
 fn open(keys: &mut Keys, lent: Lent<'_>, words: [u64; 2], time: u64, number: u16, handle: u32) -> Refusable {
     let index = (0..PLACES).find(|place| keys[2 * place] == 0).ok_or(5_u8)?;
     *part(keys, index) = words;
-    let place = lent.place(index);
-    place.words[..3].copy_from_slice(&[number.into(), forward(number, 1).into(), time]);
-    place.up[0] = handle;
-    Ok(Answer {
-        up: 1,
-        ..Answer::default()
-    })
+    Ok(lent.place(index).hand_up(number, handle, time))
 }
 
 fn reminder(keys: &Keys, lent: Lent<'_>, key: Key<'_>, time: u64, number: u16) -> Refusable {
@@ -241,6 +237,16 @@ impl Place<'_> {
         }
     }
 
+    /// Nothing is missing up to this number, which goes up at once.
+    fn hand_up(self, number: u16, handle: u32, time: u64) -> Answer {
+        self.words[..3].copy_from_slice(&[number.into(), forward(number, 1).into(), time]);
+        self.up[0] = handle;
+        Answer {
+            up: 1,
+            ..Answer::default()
+        }
+    }
+
     /// d numbers come after C: all of them missing, or all but the last, which waits. What no longer fits the window is
     /// passed first.
     fn ahead(self, d: u16, handle: Option<u32>, time: u64) -> Answer {
@@ -291,12 +297,9 @@ impl Place<'_> {
 
     fn restart(self, number: u16, handle: u32, time: u64) -> Answer {
         let returned = waiting(self.handles, self.marks, self.oldest(), self.span(), self.returned);
-        self.up[0] = handle;
-        self.words[..3].copy_from_slice(&[number.into(), forward(number, 1).into(), time]);
         Answer {
-            up: 1,
             returned,
-            ..Answer::default()
+            ..self.hand_up(number, handle, time)
         }
     }
 
