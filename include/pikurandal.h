@@ -51,7 +51,7 @@ enum pik_number {
     PIK_COUNTS = 17,         /* SSLength is not 6 + 2 x NumBands + 6 x NumAddr */
     PIK_BAND_1 = 18,         /* band 1's PE is not 1 to 7 */
     PIK_BAND_2 = 19,         /* band 2 is there, and its PE is neither 0 nor 9 to 15 */
-    PIK_RANKS = 20,          /* a rank is 0, or the ranks of bands 1 and 2 are equal */
+    PIK_RANKS = 20,          /* the rank of band 1, or of a band 2 that is there, is 0; or the two are equal */
     PIK_NO_GROUP = 21,       /* an extra address is no group address: the low bit of its first octet is 0 */
     PIK_NEXT_ETHERTYPE = 22, /* Next Ethertype is not 0 */
     PIK_LAYOUT = 23,         /* writer: address octets not a multiple of 6; more than two bands; one band, and a band 2 that is not PE 0,
@@ -106,12 +106,22 @@ struct pik_answer {
     size_t lost;
 };
 
-/* Empties a table, whatever it held: all zeros. Number 1, or 0. */
+/* What the four events share
+ *
+ * - A channel is a destination, a source (six octets each, in the order in which they stand in a frame) and a priority 0 to 7. The first frame opens
+ *   it; a close, or pik_empty, frees its place.
+ * - A time is the host's count of ticks, in a unit of the host's. On one channel it may stand still but not go back: number 7.
+ * - A handle is any number by which the host knows a frame's body. What went up is the upper layer's, in this order; what was returned is the host's to
+ *   drop. A handle that was neither is kept by the channel until a later call names it.
+ * - Numbers to be asked for again are told once, in the call that finds them missing. Sending the request, and again later, is the host's part.
+ * - One call serves one channel. A host with several open channels ticks each of them. */
+
+/* Empties a table, whatever it held: all zeros. What waited in it is not returned. Number 1, or 0. */
 uint8_t pik_empty(uint64_t *keys, size_t keys_length, uint64_t *words, size_t words_length, uint32_t *handles, size_t handles_length,
                   uint8_t *marks, size_t marks_length);
 
-/* A data frame with this sequence number came in on a channel (a destination, a source, a priority 0 to 7); `handle` stands for its body, which stays
- * with the host. The first frame opens the channel. Numbers 1, 2, 3, 5, 6, 7. */
+/* A data frame with this sequence number came in on a channel; `handle` stands for its body, which stays with the host. A frame of a channel that is not
+ * open opens it. A number more than 64 from the current one restarts it: what waited is returned, and the frame goes up. Numbers 1, 2, 3, 5, 6, 7. */
 struct pik_answer pik_data(uint64_t *keys, size_t keys_length, uint64_t *words, size_t words_length, uint32_t *handles, size_t handles_length,
                            uint8_t *marks, size_t marks_length, uint32_t *up, size_t up_length, uint32_t *returned, size_t returned_length,
                            uint16_t *nack, size_t nack_length, const uint8_t destination[6], const uint8_t source[6], uint8_t priority,

@@ -6,24 +6,38 @@ use std::{env, process};
 
 const FILES: [&str; 2] = ["receiver", "frames"];
 
+const LEVEL: &str = "-O3";
+
 fn main() {
     println!("cargo:rerun-if-changed=c");
     println!("cargo:rerun-if-changed=../../include");
     let out = env::var("OUT_DIR").unwrap_or_default();
-    let mut found = 0;
+    let mut found = Vec::new();
     for (name, words) in compilers() {
-        let compiles = Command::new(&words[0]).arg("--version").output().is_ok();
-        if compiles {
+        if let Some(version) = version(&words[0]) {
             compile(name, &words, Path::new(&out));
             println!("cargo:rustc-cfg=peer_{name}");
-            found += 1;
+            found.push(format!("{version} at {LEVEL}"));
         }
     }
-    if found == 0 {
+    if found.is_empty() {
         eprintln!("The benchmark needs gcc or clang for its peer in C, and neither is on this machine.");
         process::exit(1);
     }
     println!("cargo:rustc-link-search=native={out}");
+    let rustc = version(&env::var("RUSTC").unwrap_or_default()).unwrap_or_default();
+    let level = env::var("OPT_LEVEL").unwrap_or_default();
+    println!(
+        "cargo:rustc-env=BENCH_COMPILERS={rustc} at level {level}, {}",
+        found.join(", ")
+    );
+}
+
+/// The first line of what a compiler says of itself, where it is on this machine.
+fn version(compiler: &str) -> Option<String> {
+    let said = Command::new(compiler).arg("--version").output().ok()?;
+    let said = String::from_utf8_lossy(&said.stdout).into_owned();
+    said.lines().next().map(str::to_string)
 }
 
 /// The compilers, each by the words of its command.
@@ -46,7 +60,7 @@ fn compile(name: &str, words: &[String], out: &Path) {
             .args(&words[1..])
             .args([
                 "-std=c11",
-                "-O3",
+                LEVEL,
                 "-fPIC",
                 "-Wall",
                 "-Wextra",

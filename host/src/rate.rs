@@ -26,6 +26,10 @@ pub struct Reading<'a> {
 }
 
 /// Reads a frame.
+///
+/// # Errors
+///
+/// The first of numbers 10 to 22 that applies, from [`Refusal::FrameLength`] to [`Refusal::NextEthertype`].
 pub fn read(frame: &[u8]) -> Result<Reading<'_>, Refusal> {
     // SAFETY: the slice's own pointer and length; it is only read, and not kept.
     let reading = unsafe { raw::pik_rate_read(frame.as_ptr(), frame.len()) };
@@ -37,7 +41,11 @@ pub fn read(frame: &[u8]) -> Result<Reading<'_>, Refusal> {
 }
 
 /// Writes a request with the octets of its addresses from the start of the output on, and gives the count of octets
-/// written. Octets past them stay.
+/// written: 60, or more if the addresses need it, 270 at most. Octets past them stay.
+///
+/// # Errors
+///
+/// The first of numbers 15, 16, 23, 18, 19, 20, 21 and 24 that applies; then nothing is written.
 pub fn write(out: &mut [u8], request: &Request, addresses: &[u8]) -> Result<usize, Refusal> {
     // SAFETY: each slice's own pointer and length; the output is borrowed by `&mut`, so the two are apart; neither is kept.
     let written = unsafe {

@@ -43,7 +43,7 @@ pub enum Refusal {
     Band1 = 18,
     /// 19: band 2 is there, and its PE is neither 0 nor 9 to 15.
     Band2 = 19,
-    /// 20: a rank is 0, or the ranks of bands 1 and 2 are equal.
+    /// 20: the rank of band 1, or of a band 2 that is there, is 0; or the two are equal.
     Ranks = 20,
     /// 21: an extra address is no group address.
     NoGroup = 21,

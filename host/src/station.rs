@@ -75,6 +75,10 @@ impl Station {
     }
 
     /// A capability frame came in.
+    ///
+    /// # Errors
+    ///
+    /// [`Refusal::CsaOpcode`] where the opcode is above 1; the station stays as it is.
     pub fn receive(&mut self, opcode: u8, frame: Frame) -> Result<Order, Refusal> {
         // SAFETY: plain numbers by value.
         let answer = unsafe { raw::pik_station_receive(self.sets, opcode, frame) };

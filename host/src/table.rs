@@ -8,6 +8,9 @@ use crate::{raw, Refusal};
 ///
 /// A frame's body stays with the host; the table sees a handle. Of each handle that is taken, the table says once that it
 /// goes up or comes back, unless it still waits.
+///
+/// A time is the host's count of ticks, in a unit of the host's. On one channel it may stand still but not go back. One
+/// call serves one channel: a host with several open channels ticks each of them.
 #[derive(Clone, Debug)]
 pub struct Table {
     keys: Box<[u64]>,
@@ -74,34 +77,55 @@ impl Table {
         }
     }
 
-    /// A data frame with this number came in on a channel; the handle stands for its body. The first frame opens the
-    /// channel.
+    /// A data frame with this number came in on a channel; the handle stands for its body. A frame of a channel that is
+    /// not open opens it. A number more than 64 from the current one restarts it: what waited is returned, and the frame
+    /// goes up.
+    ///
+    /// # Errors
+    ///
+    /// [`Refusal::NoNumber`], [`Refusal::NoPriority`], [`Refusal::NoPlace`], [`Refusal::Early`].
     pub fn data(&mut self, channel: &Channel, time: u64, number: u16, handle: u32) -> Result<Answer<'_>, Refusal> {
         self.event(|slices, buffers| lent::data(slices, buffers, channel, time, number, handle))
     }
 
     /// A reminder came in: the sender's current number.
+    ///
+    /// # Errors
+    ///
+    /// [`Refusal::NoNumber`], [`Refusal::NoPriority`], [`Refusal::NoChannel`], [`Refusal::Early`], [`Refusal::Far`].
     pub fn reminder(&mut self, channel: &Channel, time: u64, number: u16) -> Result<Answer<'_>, Refusal> {
         self.event(|slices, buffers| lent::reminder(slices, buffers, channel, time, number))
     }
 
     /// The host's clock: numbers missing for 150 ticks or more are given up, and what waited behind them goes up.
+    ///
+    /// # Errors
+    ///
+    /// [`Refusal::NoPriority`], [`Refusal::NoChannel`], [`Refusal::Early`].
     pub fn tick(&mut self, channel: &Channel, time: u64) -> Result<Answer<'_>, Refusal> {
         self.event(|slices, buffers| lent::tick(slices, buffers, channel, time))
     }
 
     /// The channel is closed: waiting handles are returned, and its place is free.
+    ///
+    /// # Errors
+    ///
+    /// [`Refusal::NoPriority`], [`Refusal::NoChannel`], [`Refusal::Early`].
     pub fn close(&mut self, channel: &Channel, time: u64) -> Result<Answer<'_>, Refusal> {
         self.event(|slices, buffers| lent::close(slices, buffers, channel, time))
     }
 
-    /// All channels are closed, and no handle is kept: the empty table again.
+    /// The empty table again: no channel is open, and no handle is kept. What waited is not returned.
     pub fn empty(&mut self) {
         // The slices have their lengths, so no number can refuse it.
         lent::empty(self.slices_and_buffers().0);
     }
 
     /// A look at a channel's record; nothing changes by it.
+    ///
+    /// # Errors
+    ///
+    /// [`Refusal::NoPriority`], [`Refusal::NoChannel`].
     pub fn look(&self, channel: &Channel) -> Result<Record, Refusal> {
         let shown = Shown {
             keys: &self.keys,

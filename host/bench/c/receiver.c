@@ -156,19 +156,21 @@ static inline struct pik_answer behind(struct place p, unsigned number, uint32_t
     return answer;
 }
 
-static inline void put(struct place p, unsigned number, uint64_t time)
+/* Nothing is missing up to this number, which goes up at once. */
+static inline struct pik_answer hand_up(struct place p, unsigned number, uint32_t handle, uint64_t time, uint32_t *up)
 {
     p.words[0] = number;
     p.words[1] = (number + 1) % RING;
     p.words[2] = time;
+    up[0] = handle;
+    return (struct pik_answer){.up = 1};
 }
 
 static inline struct pik_answer restart(struct place p, unsigned number, uint32_t handle, uint64_t time, uint32_t *up, uint32_t *returned)
 {
-    struct pik_answer answer = {.up = 1};
-    answer.returned = hand(p, (unsigned)p.words[1], span(p.words), returned);
-    up[0] = handle;
-    put(p, number, time);
+    size_t count = hand(p, (unsigned)p.words[1], span(p.words), returned);
+    struct pik_answer answer = hand_up(p, number, handle, time, up);
+    answer.returned = count;
     return answer;
 }
 
@@ -192,15 +194,15 @@ struct pik_answer PEER_FN(data)(uint64_t *keys, size_t keys_length, uint64_t *wo
             return refused(PIK_NO_PLACE);
         keys[2 * i] = first;
         keys[2 * i + 1] = second;
-        put(place_at(words, handles, marks, i), number, time);
-        up[0] = handle;
-        return (struct pik_answer){.up = 1};
+        return hand_up(place_at(words, handles, marks, i), number, handle, time, up);
     }
     struct place p = place_at(words, handles, marks, i);
     uint8_t refusal = judge(p, time);
     if (refusal)
         return refused(refusal);
     unsigned d = steps((unsigned)p.words[0], number);
+    if (d == 1 && span(p.words) == 0)
+        return hand_up(p, number, handle, time, up);
     if (d >= 1 && d <= REACH)
         return ahead(p, d, &handle, time, up, nack);
     if (d == 0 || d >= RING - REACH)

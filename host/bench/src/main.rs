@@ -2,6 +2,7 @@
 
 #![deny(unsafe_op_in_unsafe_fn)]
 
+mod agreement;
 mod implementations;
 mod inplace;
 mod measure;
@@ -10,45 +11,18 @@ mod scenarios;
 
 use implementations::Implementation;
 use measure::Stage;
-use scenarios::{Events, Single};
+use scenarios::Scenarios;
 use std::process::{Command, ExitCode};
 
 const USAGE: &str = "\
 bench                  times
 bench --instructions   instructions, counted by valgrind's callgrind";
 
-/// Rounds over all implementations; the best pass of all rounds counts.
+/// Rounds over all implementations; the best pass of all rounds counts. `TIMES` says it.
 const ROUNDS: usize = 200;
 
 /// What counts instructions, where the environment's BENCH_COUNTER names nothing else.
 const COUNTER: &str = "valgrind --tool=callgrind --callgrind-out-file=/dev/null";
-
-/// Random calls by which each peer is checked before anything is measured.
-const CHECKED: u64 = 20_000;
-
-/// The scenarios, each with its group's name.
-struct Scenarios {
-    events: Vec<Events>,
-    singles: Vec<(&'static str, Single)>,
-}
-
-impl Scenarios {
-    fn all() -> Scenarios {
-        Scenarios {
-            events: scenarios::events(),
-            singles: scenarios::singles(),
-        }
-    }
-
-    fn stages(&self) -> impl Iterator<Item = (&'static str, Stage<'_>)> {
-        let events = self.events.iter().map(|events| (events.name, Stage::of_events(events)));
-        let singles = self
-            .singles
-            .iter()
-            .map(|(name, single)| (*name, Stage::of_single(single)));
-        events.chain(singles)
-    }
-}
 
 fn main() -> ExitCode {
     let words: Vec<String> = std::env::args().skip(1).collect();
@@ -56,8 +30,8 @@ fn main() -> ExitCode {
     let implementations = implementations::all();
     let scenarios = Scenarios::all();
     match words.as_slice() {
-        [] => compared_then(&implementations, &scenarios, times),
-        ["--instructions"] => compared_then(&implementations, &scenarios, instructions),
+        [] => measured(&implementations, &scenarios, &TIMES),
+        ["--instructions"] => measured(&implementations, &scenarios, &INSTRUCTIONS),
         ["passes", passes, implementation, scenario] => {
             self::passes(&implementations, &scenarios, [passes, implementation, scenario])
         }
@@ -68,16 +42,35 @@ fn main() -> ExitCode {
     }
 }
 
+/// What is measured of a call, and how.
+struct Measure {
+    says: &'static str,
+    costs: fn(&[Implementation], &str, &mut Stage<'_>) -> Option<Vec<f64>>,
+}
+
+const TIMES: Measure = Measure {
+    says: "Nanoseconds a call, with what the call itself costs: the best of 200 passes.",
+    costs: times,
+};
+
+const INSTRUCTIONS: Measure = Measure {
+    says: "Instructions a call, without what the call itself costs.",
+    costs: instructions,
+};
+
+/// What holds for each measure.
+const SAYS: &str = "\
+The answer buffers are not cleared: each call gets them as the last one left them, and the writer's output likewise.
+The ratio is that of the archive to the cheapest peer.";
+
 /// Measures, once all implementations have been seen to answer alike.
-fn compared_then(
-    implementations: &[Implementation],
-    scenarios: &Scenarios,
-    measure: fn(&[Implementation], &str, &mut Stage<'_>) -> Option<Vec<f64>>,
-) -> ExitCode {
-    if let Err(difference) = compared(implementations, scenarios) {
+fn measured(implementations: &[Implementation], scenarios: &Scenarios, measure: &Measure) -> ExitCode {
+    if let Err(difference) = agreement::seen(implementations, scenarios) {
         println!("{difference}");
         return ExitCode::FAILURE;
     }
+    println!("The peers are compiled by {}.", env!("BENCH_COMPILERS"));
+    println!("{}\n{SAYS}\n", measure.says);
     let names: Vec<&str> = implementations
         .iter()
         .map(|implementation| implementation.name)
@@ -85,33 +78,15 @@ fn compared_then(
     println!("| scenario | {} | ratio |", names.join(" | "));
     println!("|---|{}---|", "---|".repeat(names.len()));
     for (name, mut stage) in scenarios.stages() {
-        let costs = match measure(implementations, name, &mut stage) {
+        let costs = match (measure.costs)(implementations, name, &mut stage) {
             Some(costs) => costs,
             None => return ExitCode::FAILURE,
         };
-        let fastest_peer = costs[1..].iter().copied().fold(f64::INFINITY, f64::min);
+        let cheapest_peer = costs[1..].iter().copied().fold(f64::INFINITY, f64::min);
         let columns: Vec<String> = costs.iter().map(|cost| format!("{cost:.1}")).collect();
-        println!("| {name} | {} | {:.2} |", columns.join(" | "), costs[0] / fastest_peer);
+        println!("| {name} | {} | {:.2} |", columns.join(" | "), costs[0] / cheapest_peer);
     }
     ExitCode::SUCCESS
-}
-
-/// Each implementation against the independent program on random lent tables, and against the archive on what is measured.
-fn compared(implementations: &[Implementation], scenarios: &Scenarios) -> Result<(), String> {
-    for implementation in implementations {
-        let taken =
-            |slices: pikurandal::lent::Slices<'_>,
-             buffers: pikurandal::lent::Buffers<'_>,
-             event: &peer::receiver::ChannelEvent| implementation.take(slices, buffers, event);
-        compare::lent::compare(&taken, 1, CHECKED, |_| ())
-            .map_err(|mismatch| format!("{}: {mismatch}", implementation.name))?;
-        for (name, mut stage) in scenarios.stages() {
-            if stage.trace(implementation) != stage.trace(&implementations[0]) {
-                return Err(format!("{}: '{name}' is answered otherwise", implementation.name));
-            }
-        }
-    }
-    Ok(())
 }
 
 /// Nanoseconds a call, of the best pass.

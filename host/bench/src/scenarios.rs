@@ -1,5 +1,6 @@
 //! What is measured: for each scenario the tables at its start and the calls, or the frames.
 
+use crate::measure::Stage;
 use peer::lent::Lent;
 use peer::receiver::{Act, Buffers, ChannelEvent};
 use peer::record::{Cell, Record};
@@ -26,6 +27,31 @@ pub enum Single {
     Write(Request, Vec<u8>),
     /// A capability frame to receive.
     Receive(Station, u8, Frame),
+}
+
+/// All that is measured.
+pub struct Scenarios {
+    events: Vec<Events>,
+    singles: Vec<(&'static str, Single)>,
+}
+
+impl Scenarios {
+    /// All scenarios.
+    pub fn all() -> Scenarios {
+        Scenarios {
+            events: events(),
+            singles: singles(),
+        }
+    }
+
+    /// Each by its name, in the state that its passes begin with.
+    pub fn stages(&self) -> impl Iterator<Item = (&'static str, Stage<'_>)> {
+        let events = self.events.iter();
+        let singles = self.singles.iter();
+        events
+            .map(|events| (events.name, Stage::of_events(events)))
+            .chain(singles.map(|(name, single)| (*name, Stage::of_single(single))))
+    }
 }
 
 /// How many events a pass has where the channel stays as it is from event to event.
@@ -64,6 +90,13 @@ fn starved(current: u64) -> Record {
         cells: vec![Cell::Missing(900); 32],
         ..full(current)
     }
+}
+
+/// A broken record: the last of 32 missing numbers is missing for longer than those before it.
+fn falling(current: u64) -> Record {
+    let mut record = starved(current);
+    record.cells[31] = Cell::Missing(899);
+    record
 }
 
 /// A table with channels open at its first places, all with this record.
@@ -121,7 +154,7 @@ fn gap_and_fill(index: u64) -> ChannelEvent {
 }
 
 /// The scenarios of channel events.
-pub fn events() -> Vec<Events> {
+fn events() -> Vec<Events> {
     let in_order = |place| move |index| data(place, 1_000 + index, index + 1);
     let tick_at = |place| move |index| at(place, 1_000 + index, Act::Tick);
     let mut scenarios = vec![
@@ -180,7 +213,9 @@ pub fn events() -> Vec<Events> {
         each("close", table(1, &quiet(100)), at(0, 1_000, Act::Close)),
         each("close, 31 wait", table(1, &full(100)), at(0, 1_000, Act::Close)),
         running("refused by 2", 1, |index| at(0, 1_000 + index, Act::Data(4_096, 7))),
+        running("refused by 5", 64, |_| at(64, 1_000, Act::Data(11, 7))),
         running("refused by 7", 1, |_| at(0, 999, Act::Data(11, 7))),
+        running("refused by 8", 1, |_| at(0, 1_000, Act::Reminder(75))),
         running("lookup, place 0", 64, tick_at(0)),
         running("lookup, place 31", 64, tick_at(31)),
         running("lookup, place 63", 64, tick_at(63)),
@@ -189,6 +224,9 @@ pub fn events() -> Vec<Events> {
     let mut short = running("refused by 1", 1, in_order(0));
     short.buffers.nack = 31;
     scenarios.push(short);
+    let mut broken = running("refused by 6, a time falls", 1, in_order(0));
+    broken.start = vec![table(1, &falling(100))];
+    scenarios.push(broken);
     scenarios
 }
 
@@ -208,7 +246,7 @@ fn request(bands: u8) -> Request {
 }
 
 /// The scenarios of frames.
-pub fn singles() -> Vec<(&'static str, Single)> {
+fn singles() -> Vec<(&'static str, Single)> {
     let forty = [3, 0, 0, 0, 0, 9].repeat(40);
     let frame = |bands, addresses: &[u8]| {
         let mut out = [0; 300];

@@ -245,7 +245,7 @@ fn ways(record: &Record) -> [bool; 6] {
         in_ring && record.span() > 32,
         record.oldest_waits(),
         times.iter().any(|&time| time > record.latest),
-        !times.is_sorted(),
+        times.windows(2).any(|pair| pair[0] > pair[1]),
     ]
 }
 

@@ -1,5 +1,7 @@
 //! The receiver over the lent table (document 01, 'The channel table', 'The four channel events', 'Numbers the box may
 //! answer with').
+//!
+//! An answer is 40 octets with a gap after the number: functions that return one are inlined, so that it is laid down once.
 
 use pikurandal::lent::{BUFFER, HANDLES, KEYS, MARKS, PLACES, WORDS};
 use pikurandal::raw::Answer;
@@ -83,6 +85,7 @@ fn find(keys: &Keys, key: [u64; 2]) -> Option<usize> {
     keys.chunks_exact(2).position(|stored| stored == key)
 }
 
+#[inline(always)]
 fn data(keys: &mut Keys, lent: Lent<'_>, key: Key<'_>, time: u64, number: u16, handle: u32) -> Refusable {
     if number >= RING {
         return Err(2);
@@ -94,7 +97,9 @@ fn data(keys: &mut Keys, lent: Lent<'_>, key: Key<'_>, time: u64, number: u16, h
     };
     place.judge(time)?;
     let d = steps(place.current(), number);
-    Ok(if (1..=REACH).contains(&d) {
+    Ok(if d == 1 && place.span() == 0 {
+        place.hand_up(number, handle, time)
+    } else if (1..=REACH).contains(&d) {
         place.ahead(d, Some(handle), time)
     } else if d == 0 || d >= RING - REACH {
         place.behind(number, handle, time)
@@ -103,18 +108,14 @@ fn data(keys: &mut Keys, lent: Lent<'_>, key: Key<'_>, time: u64, number: u16, h
     })
 }
 
+#[inline(always)]
 fn open(keys: &mut Keys, lent: Lent<'_>, words: [u64; 2], time: u64, number: u16, handle: u32) -> Refusable {
     let index = (0..PLACES).find(|place| keys[2 * place] == 0).ok_or(5_u8)?;
     *part(keys, index) = words;
-    let place = lent.place(index);
-    place.words[..3].copy_from_slice(&[number.into(), forward(number, 1).into(), time]);
-    place.up[0] = handle;
-    Ok(Answer {
-        up: 1,
-        ..Answer::default()
-    })
+    Ok(lent.place(index).hand_up(number, handle, time))
 }
 
+#[inline(always)]
 fn reminder(keys: &Keys, lent: Lent<'_>, key: Key<'_>, time: u64, number: u16) -> Refusable {
     if number >= RING {
         return Err(2);
@@ -132,6 +133,7 @@ fn reminder(keys: &Keys, lent: Lent<'_>, key: Key<'_>, time: u64, number: u16) -
     }
 }
 
+#[inline(always)]
 fn tick(keys: &Keys, lent: Lent<'_>, key: Key<'_>, time: u64) -> Refusable {
     let place = lent.place(find(keys, key.words()?).ok_or(4_u8)?);
     place.judge(time)?;
@@ -154,6 +156,7 @@ fn tick(keys: &Keys, lent: Lent<'_>, key: Key<'_>, time: u64) -> Refusable {
     Ok(answer)
 }
 
+#[inline(always)]
 fn close(keys: &mut Keys, lent: Lent<'_>, key: Key<'_>, time: u64) -> Refusable {
     let index = find(keys, key.words()?).ok_or(4_u8)?;
     let place = lent.place(index);
@@ -170,6 +173,7 @@ fn close(keys: &mut Keys, lent: Lent<'_>, key: Key<'_>, time: u64) -> Refusable 
 }
 
 impl<'a> Lent<'a> {
+    #[inline(always)]
     fn place(self, place: usize) -> Place<'a> {
         Place {
             words: part(self.words, place),
@@ -183,6 +187,7 @@ impl<'a> Lent<'a> {
 }
 
 /// Lays the waiting handles among `count` numbers from `from` on into a buffer: how many they are.
+#[inline(always)]
 fn waiting(handles: &[u32; SLOTS], marks: &[u8; SLOTS], from: u16, count: u16, buffer: &mut [u32]) -> usize {
     let mut laid = 0;
     for number in from..from + count {
@@ -231,6 +236,7 @@ impl Place<'_> {
     }
 
     /// Numbers 6 and 7.
+    #[inline(always)]
     fn judge(&self, time: u64) -> Result<(), u8> {
         if self.is_broken() {
             Err(6)
@@ -241,8 +247,20 @@ impl Place<'_> {
         }
     }
 
+    /// Nothing is missing up to this number, which goes up at once.
+    #[inline(always)]
+    fn hand_up(self, number: u16, handle: u32, time: u64) -> Answer {
+        self.words[..3].copy_from_slice(&[number.into(), forward(number, 1).into(), time]);
+        self.up[0] = handle;
+        Answer {
+            up: 1,
+            ..Answer::default()
+        }
+    }
+
     /// d numbers come after C: all of them missing, or all but the last, which waits. What no longer fits the window is
     /// passed first.
+    #[inline(always)]
     fn ahead(self, d: u16, handle: Option<u32>, time: u64) -> Answer {
         let (current, oldest, span) = (self.current(), self.oldest(), self.span());
         let over = (span + d).saturating_sub(WINDOW);
@@ -274,6 +292,7 @@ impl Place<'_> {
     }
 
     /// A number from C - 64 to C: it fills a gap, or it is here already.
+    #[inline(always)]
     fn behind(self, number: u16, handle: u32, time: u64) -> Answer {
         let slot = slot(number);
         self.words[2] = time;
@@ -289,18 +308,17 @@ impl Place<'_> {
         self.settle(0)
     }
 
+    #[inline(always)]
     fn restart(self, number: u16, handle: u32, time: u64) -> Answer {
         let returned = waiting(self.handles, self.marks, self.oldest(), self.span(), self.returned);
-        self.up[0] = handle;
-        self.words[..3].copy_from_slice(&[number.into(), forward(number, 1).into(), time]);
         Answer {
-            up: 1,
             returned,
-            ..Answer::default()
+            ..self.hand_up(number, handle, time)
         }
     }
 
     /// M moves on while it waits, and goes up.
+    #[inline(always)]
     fn settle(self, mut up: usize) -> Answer {
         let mut oldest = self.oldest();
         for _ in 0..self.span() {

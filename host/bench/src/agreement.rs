@@ -1,0 +1,112 @@
+//! What is seen before anything is measured: all implementations give the same answers, and they are the right ones.
+
+use crate::implementations::Implementation;
+use crate::scenarios::Scenarios;
+use peer::make::Maker;
+use peer::random::Random;
+use peer::receiver::ChannelEvent;
+use peer::session::{Event, Writing};
+use pikurandal::lent::{Buffers, Slices};
+use pikurandal::raw::{Frame, Request, Station};
+
+/// How many random calls, and how many events of a random session, each implementation is tried on.
+const TRIED: u64 = 20_000;
+
+/// The most octets an output has.
+const LARGEST_ROOM: u16 = 1_600;
+
+/// Each implementation against the independent program on random lent tables, and against the first one, the archive, on
+/// random frames and on what is measured. The archive's own answers to frames are held against the independent program's.
+pub fn seen(implementations: &[Implementation], scenarios: &Scenarios) -> Result<(), String> {
+    let archive = &implementations[0];
+    compare::sessions::compare(1, TRIED, |_| ()).map_err(|mismatch| format!("{}: {mismatch}", archive.name))?;
+    for implementation in implementations {
+        on_lent_tables(implementation)?;
+        on_frames(implementation, archive)?;
+        on_scenarios(implementation, archive, scenarios)?;
+    }
+    Ok(())
+}
+
+fn on_lent_tables(implementation: &Implementation) -> Result<(), String> {
+    let taken =
+        |slices: Slices<'_>, buffers: Buffers<'_>, event: &ChannelEvent| implementation.take(slices, buffers, event);
+    compare::lent::compare(&taken, 1, TRIED, |_| ()).map_err(|mismatch| format!("{}: {mismatch}", implementation.name))
+}
+
+/// The answers, the tables after them and the written octets of one pass over each scenario.
+fn on_scenarios(
+    implementation: &Implementation,
+    archive: &Implementation,
+    scenarios: &Scenarios,
+) -> Result<(), String> {
+    for (name, mut stage) in scenarios.stages() {
+        if stage.trace(implementation) != stage.trace(archive) {
+            return Err(format!("{}: '{name}' is answered otherwise", implementation.name));
+        }
+    }
+    Ok(())
+}
+
+/// The frames and requests of a random session, refused ones too.
+fn on_frames(implementation: &Implementation, archive: &Implementation) -> Result<(), String> {
+    let mut random = Random::from_seed(1);
+    for (index, event) in (0..TRIED).zip(Maker::from_seed(1)) {
+        let station = any_station(&mut random);
+        let litter = random.octet();
+        if answered(implementation, &event, station, litter) != answered(archive, &event, station, litter) {
+            return Err(format!(
+                "{}: event {index}, {event:?}, is answered otherwise",
+                implementation.name
+            ));
+        }
+    }
+    Ok(())
+}
+
+/// The answer to a frame or a request, with the output that had litter before. The other events have no answer here.
+fn answered(implementation: &Implementation, event: &Event, station: Station, litter: u8) -> Option<(String, Vec<u8>)> {
+    match event {
+        Event::Read(frame) => Some((format!("{:?}", implementation.rate_read(frame)), Vec::new())),
+        Event::Write(writing) => {
+            let mut out = vec![litter; writing.room.min(LARGEST_ROOM).into()];
+            let written = implementation.rate_write(&mut out, request_of(writing), &writing.addresses);
+            Some((format!("{written:?}"), out))
+        }
+        Event::Received(frame) => {
+            let carried = Frame {
+                oldest_tx: frame.oldest_tx,
+                current_tx: frame.current_tx,
+                current_rx: frame.current_rx,
+            };
+            let answer = implementation.station_receive(station, frame.opcode, carried);
+            Some((format!("{answer:?}"), Vec::new()))
+        }
+        Event::Channel(_) | Event::Look(_) | Event::Fresh(_) | Event::Use(_) | Event::PeriodEnd => None,
+    }
+}
+
+fn any_station(random: &mut Random) -> Station {
+    Station {
+        default_set: random.word() as u32,
+        new_tx: random.word() as u32,
+        previous_tx: random.word() as u32,
+        oldest_tx: random.word() as u32,
+        new_rx: random.word() as u32,
+        previous_rx: random.word() as u32,
+    }
+}
+
+fn request_of(writing: &Writing) -> Request {
+    let request = &writing.request;
+    Request {
+        destination: request.destination,
+        source: request.source,
+        opcode: request.opcode,
+        bands: request.num_bands,
+        pe1: request.band_1.pe,
+        rank1: request.band_1.rank,
+        pe2: request.band_2.pe,
+        rank2: request.band_2.rank,
+    }
+}
