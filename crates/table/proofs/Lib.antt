@@ -1,5 +1,6 @@
 pub mod First
 pub mod Ways
+pub mod Saying
 pub mod Places
 pub mod Parts
 pub mod Stored

@@ -2,9 +2,10 @@
 -- Document 01, 'Numbers the box may answer with', 1 to 5.
 use Prim.Native.Nat.{ℕ, zero, suc}
 use mathlib.Core.List.{List, [], _∷_}
-use mathlib.Core.Bool.{cond}
+use mathlib.Core.Bool.{Bool, true, false, cond, _||_}
 use lib.Dec.{leb, eqb}
-use Rattle.wire.specs.Refusals.{_else_, first}
+use Rattle.wire.specs.Refusals.{Refusal, _else_, first}
+use Rattle.wire.specs.Answers.{Said, accepted, refused}
 use Rattle.larq.specs.Channel.{window}
 use Rattle.larq.specs.Table.{Key, Lent, lentEnough}
 use Rattle.table.specs.First.{firstPlace, stores}
@@ -41,3 +42,38 @@ openingAt Found.Nothing = DataWay.Refused 5
 unfoldable pub dataWayBy : Way → Found → DataWay
 dataWayBy (Way.Known i) spare = DataWay.Known i
 dataWayBy (Way.Refused n) spare = cond (eqb n 4) (openingAt spare) (DataWay.Refused n)
+
+-- What each case says: document 01's number, 0 where the event goes to a place, and the values that come with it.
+
+-- a way: the place
+abbrev pub waySays : Way → Said
+waySays (Way.Known i) = accepted (i ∷ [])
+waySays (Way.Refused n) = refused n
+
+-- a way of data: 1 if it opens a channel there, else 0, and the place
+abbrev pub dataWaySays : DataWay → Said
+dataWaySays (DataWay.Known i) = accepted (0 ∷ (i ∷ []))
+dataWaySays (DataWay.Free i) = accepted (1 ∷ (i ∷ []))
+dataWaySays (DataWay.Refused n) = refused n
+
+abbrev pub isFound : Found → Bool
+isFound (Found.At i) = true
+isFound Found.Nothing = false
+
+abbrev pub placesOf : Found → List ℕ
+placesOf (Found.At i) = i ∷ []
+placesOf Found.Nothing = []
+
+-- the place of the channel, or else the free one, which is opened
+abbrev pub leadsTo : Found → Found → List ℕ
+leadsTo (Found.At i) spare = 0 ∷ (i ∷ [])
+leadsTo Found.Nothing spare = 1 ∷ placesOf spare
+
+-- the refusals of a reminder, tick or close, and those of data, that no record has a part in; `place` is the key's, `spare` the free one
+abbrev pub wayRefusals : Lent → ℕ → ℕ → Found → List Refusal
+wayRefusals l number priority place =
+    (lentEnough window l else 1) ∷ ((leb number 4095 else 2) ∷ ((leb priority 7 else 3) ∷ ((isFound place else 4) ∷ [])))
+
+abbrev pub dataWayRefusals : Lent → ℕ → ℕ → Found → Found → List Refusal
+dataWayRefusals l number priority place spare =
+    (lentEnough window l else 1) ∷ ((leb number 4095 else 2) ∷ ((leb priority 7 else 3) ∷ ((isFound place || isFound spare else 5) ∷ [])))
