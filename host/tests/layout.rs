@@ -107,8 +107,8 @@ fn c_name(refusal: Refusal) -> String {
     name
 }
 
-/// Whether a C compiler takes the header with these claims.
-fn compiler_takes(claims: &str, name: &str) -> bool {
+/// Has a C compiler take the header with these claims. What it complains of, if it does not.
+fn compiled(claims: &str, name: &str) -> Result<(), String> {
     let file = Path::new(env!("CARGO_TARGET_TMPDIR")).join(name);
     fs::write(&file, format!("#include \"pikurandal.h\"\n{claims}")).expect("the folder for tests can be written");
     let compiler = std::env::var("CC").unwrap_or_else(|_| "cc".to_string());
@@ -124,21 +124,25 @@ fn compiler_takes(claims: &str, name: &str) -> bool {
             "-I",
         ])
         .args([&include, &file])
-        .status();
-    ended.expect("a C compiler, `cc` or what CC names, is there").success()
+        .output()
+        .expect("a C compiler, `cc` or what CC names, is there");
+    if ended.status.success() {
+        return Ok(());
+    }
+    Err(String::from_utf8_lossy(&ended.stderr).into_owned())
 }
 
 #[test]
 fn header_and_binding_agree() {
-    assert!(compiler_takes(&[structs(), numbers()].concat().concat(), "layout.c"));
+    let complaint = compiled(&[structs(), numbers()].concat().concat(), "layout.c").err();
+    assert!(complaint.is_none(), "{}", complaint.unwrap_or_default());
 }
 
 #[test]
 fn a_wrong_claim_is_seen() {
-    assert!(!compiler_takes(
-        &claim("sizeof(struct pik_answer)", size_of::<raw::Answer>() + 1),
-        "wrong.c"
-    ));
+    let claim = claim("sizeof(struct pik_answer)", size_of::<raw::Answer>() + 1);
+    let complaint = compiled(&claim, "wrong.c").err().unwrap_or_default();
+    assert!(complaint.contains("in the binding"), "{complaint}");
 }
 
 #[test]

@@ -19,7 +19,7 @@ bench                  times
 bench --instructions   instructions, counted by valgrind's callgrind";
 
 /// Rounds over all implementations; the best pass of all rounds counts. `TIMES` says it.
-const ROUNDS: usize = 200;
+const ROUNDS: usize = 1_000;
 
 /// What counts instructions, where the environment's BENCH_COUNTER names nothing else.
 const COUNTER: &str = "valgrind --tool=callgrind --callgrind-out-file=/dev/null";
@@ -49,7 +49,7 @@ struct Measure {
 }
 
 const TIMES: Measure = Measure {
-    says: "Nanoseconds a call, with what the call itself costs: the best of 200 passes.",
+    says: "Nanoseconds a call, with what the call itself costs: the best of 1,000 passes.",
     costs: times,
 };
 
