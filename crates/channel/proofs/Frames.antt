@@ -14,9 +14,10 @@ use Rattle.larq.specs.Answer.{Outcome, accepted, holds}
 use Rattle.larq.specs.Events.{frame, act-on, data-on, ahead, restarted, opened, asked, settledAt, taken}
 use Rattle.channel.specs.Place.{window, cellAt, spanOf, recordWith, recordOf}
 use Rattle.channel.specs.Call.{Parts, Buffers, parts, buffers, Says, Did, Called}
-use Rattle.channel.specs.Steps.{Ready, recordIn, spanIn, headed, filledAt, dataAt}
+use Rattle.channel.specs.Steps.{Ready, recordIn, spanIn, headed, answerOf, filledAt, dataAt}
 use Rattle.channel.specs.Judge.{NextAt, MissingAt, KnownAt}
 use Rattle.channel.specs.declared.Answer.{Answer}
+use Rattle.channel.specs.declared.act.Counts.{Counts}
 use Rattle.channel.specs.declared.record.Record.{Record}
 use Rattle.channel.proofs.Windows.{window-none}
 use Rattle.channel.proofs.Laying.{wrote-none, wrote-one}
@@ -64,15 +65,15 @@ module _ {r : Record} {W H K : List ℕ} (s x t : ℕ) (is-ready : Ready r W H K
         became = rw ew (record-opened W H K s t (omega (arith, is-ready .sized .words)));
       })
 
-  pub frame-ahead : {d : ℕ} {after : Parts} {U u N n : List ℕ} {a : Answer} (B : List ℕ) → seen (reach channel.window) (r .current .0) s ≡ Ahead d
-      → Did (ahead channel.window c t s (d - 1) (waits x ∷ [])) (parts W H K) after (buffers U [] N) (buffers u [] n) a
-      → Did (dataAt c t s x) (parts W H K) after (buffers U B N) (buffers u B n) a
-  frame-ahead B is did = did-as (rule-by is) (did-returned B did)
+  pub frame-ahead : {d : ℕ} {after : Parts} {U u N n : List ℕ} {k : Counts} {a : Answer} (B : List ℕ) → seen (reach channel.window) (r .current .0) s ≡ Ahead d
+      → Did (ahead channel.window c t s (d - 1) (waits x ∷ [])) (parts W H K) after (buffers U [] N) (buffers u [] n) (answerOf k)
+      → a ≡ answerOf k → Did (dataAt c t s x) (parts W H K) after (buffers U B N) (buffers u B n) a
+  frame-ahead B is did e = rw e (did-as (rule-by is) (did-returned B did))
 
-  pub frame-missing : {after : Parts} {U u : List ℕ} {a : Answer} (B N : List ℕ) → MissingAt r K s
-      → Did (filledAt c t s x) (parts W H K) after (buffers U [] []) (buffers u [] []) a
-      → Did (dataAt c t s x) (parts W H K) after (buffers U B N) (buffers u B N) a
-  frame-missing B N at did = did-as (rule-by (at .behind .is)) (did-nack N (did-returned B did))
+  pub frame-missing : {after : Parts} {U u : List ℕ} {k : Counts} {a : Answer} (B N : List ℕ) → MissingAt r K s
+      → Did (filledAt c t s x) (parts W H K) after (buffers U [] []) (buffers u [] []) (answerOf k)
+      → a ≡ answerOf k → Did (dataAt c t s x) (parts W H K) after (buffers U B N) (buffers u B N) a
+  frame-missing B N at did e = rw e (did-as (rule-by (at .behind .is)) (did-nack N (did-returned B did)))
 
   pub frame-far : {after : Parts} {U u B b : List ℕ} {a : Answer} (N : List ℕ) → seen (reach channel.window) (r .current .0) s ≡ Far
       → Did (restarted c t s x) (parts W H K) after (buffers U B []) (buffers u b []) a

@@ -11,7 +11,7 @@ use borrow.Author.Tests.{leb-true, eqb-true, eqb-false}
 use Rattle.wire.specs.Refusals.{Refusal, first, _else_}
 use Rattle.ring.specs.Ring.{next, steps, seen}
 use Rattle.ring.specs.declared.Side.the-variants.{Ahead}
-use Rattle.ring.proofs.Sides.{Seen, sees}
+use Rattle.ring.proofs.Sides.{Seen, sees, is-ahead}
 use Rattle.larq.specs.Channel as channel
 use Rattle.larq.specs.Channel.{headMissing, times, orderly, sound, reach, waits, missing, Cell}
 use Rattle.larq.specs.Table.{lentEnough, notBefore}
@@ -130,3 +130,8 @@ module _ (c s d : ℕ) (is : seen (reach channel.window) c s ≡ Ahead d) where
 
 pub ahead-by-one : (c s : ℕ) → seen (reach channel.window) c s ≡ Ahead 1 → steps c s ≡ 1
 ahead-by-one c s is = ahead-of c s 1 is .is
+
+-- M is one ahead of C where nothing is missing
+pub next-is-ahead : (c m s : ℕ) → s ≡ m → spanOf c m ≡ 0 → seen (reach channel.window) c s ≡ Ahead 1
+next-is-ahead c m s e none =
+    let one : steps c s ≡ 1 = omega arith in is-ahead (reach channel.window) c s (omega arith) 1 (omega arith) (omega arith) one

@@ -18,8 +18,9 @@ use Rattle.larq.specs.Table.{notFar}
 use Rattle.channel.specs.Place.{window, cellAt, recordWith, recordOf}
 use Rattle.channel.specs.Call.{Parts, Buffers, parts, buffers, Says, Did, Called}
 use Rattle.channel.specs.Slots.{earlier}
-use Rattle.channel.specs.Steps.{Ready, recordIn, spanIn, walkOf, Finished, nothing, reminderAt}
+use Rattle.channel.specs.Steps.{Ready, recordIn, spanIn, walkOf, Finished, nothing, answerOf, reminderAt}
 use Rattle.channel.specs.declared.Answer.{Answer}
+use Rattle.channel.specs.declared.act.Counts.{Counts}
 use Rattle.channel.specs.declared.record.Record.{Record}
 use Rattle.channel.proofs.Windows.{length-window}
 use Rattle.channel.proofs.Laying.{wrote-front, wrote-none}
@@ -38,9 +39,10 @@ module _ {r : Record} {W H K : List ℕ} (is-ready : Ready r W H K) (t : ℕ) wh
     unfolding recordWith
     rule-by is = ap (λ x. cond (notFar x) (reminder-on channel.window c t s x) (refused 8)) is
 
-    pub reminder-ahead : {d : ℕ} {after : Parts} {had has : Buffers} {a : Answer} → seen (reach channel.window) (r .current .0) s ≡ Ahead d
-        → Did (ahead channel.window c t s d []) (parts W H K) after had has a → Did (reminderAt c t s) (parts W H K) after had has a
-    reminder-ahead is did = did-as (rule-by is) did
+    pub reminder-ahead : {d : ℕ} {after : Parts} {had has : Buffers} {k : Counts} {a : Answer} → seen (reach channel.window) (r .current .0) s ≡ Ahead d
+        → Did (ahead channel.window c t s d []) (parts W H K) after had has (answerOf k) → a ≡ answerOf k
+        → Did (reminderAt c t s) (parts W H K) after had has a
+    reminder-ahead is did e = rw e (did-as (rule-by is) did)
 
     pub reminder-behind : {d : ℕ} {w : List ℕ} {a : Answer} (U N : List ℕ) → seen (reach channel.window) (r .current .0) s ≡ Behind d → w ≡ set W 2 t
         → Says 0 0 0 0 0 a → Did (reminderAt c t s) (parts W H K) (parts w H K) (buffers U [] N) (buffers U [] N) a
@@ -78,15 +80,15 @@ module _ {r : Record} {W H K : List ℕ} (is-ready : Ready r W H K) (t : ℕ) wh
     pub tick-room : (U : List ℕ) → 32 ≤ length U → 0 + length (walkOf to until W H K .up) ≤ length U
     tick-room U room = omega (arith, ap (λ p. length (p .up)) walk-to, few-up)
 
-    pub tick-did : {U u w : List ℕ} {a : Answer} → Finished to until (parts W H K) nothing U w u a → 32 ≤ length U
-        → Did (tick-on c t) (parts W H K) (parts w H K) (buffers U [] []) (buffers u [] []) a
+    pub tick-did : {U u w : List ℕ} {k : Counts} → Finished to until (parts W H K) nothing U w u k → 32 ≤ length U
+        → Did (tick-on c t) (parts W H K) (parts w H K) (buffers U [] []) (buffers u [] []) (answerOf k)
     unfolding recordWith asked
-    tick-did {U} {u} {w} {a} f room =
+    tick-did f room =
         record {
           answered = record {
-            number = f .number;
+            number = refl;
             up = wrote-front (rw walk-to at (f .up)) (omega (arith, few-up));
-            returned = rw (f .returned) (wrote-none []);
+            returned = wrote-none [];
             nack = rw (f .nack) (wrote-none []);
             lost = f .lost ∙ zero-add _ ∙ ap (λ p. p .lost) walk-to;
           };
@@ -105,9 +107,10 @@ module _ {p after : Parts} {b : Buffers} {time : ℕ} {r : Record} {a : Answer} 
   called-reminder {s} opened did =
       called-opened (reminder s) refl opened (ap (λ y. reminderAt y time s) (sym (ready opened .held))) (did-returned (b .returned) did)
 
-  pub called-tick : {u : List ℕ} → Opened p b 0 time r
-      → Did (tick-on (recordIn r (p .words) (p .handles) (p .marks)) time) p after (buffers (b .up) [] []) (buffers u [] []) a
-      → Called tick time p after b (buffers u (b .returned) (b .nack)) a
+  pub called-tick : {u : List ℕ} {k : Counts} → Opened p b 0 time r
+      → Did (tick-on (recordIn r (p .words) (p .handles) (p .marks)) time) p after (buffers (b .up) [] []) (buffers u [] []) (answerOf k)
+      → a ≡ answerOf k → Called tick time p after b (buffers u (b .returned) (b .nack)) a
   unfolding act-on
-  called-tick opened did =
-      called-opened tick refl opened (ap (λ y. tick-on y time) (sym (ready opened .held))) (did-nack (b .nack) (did-returned (b .returned) did))
+  called-tick opened did e =
+      rw e
+      (called-opened tick refl opened (ap (λ y. tick-on y time) (sym (ready opened .held))) (did-nack (b .nack) (did-returned (b .returned) did)))

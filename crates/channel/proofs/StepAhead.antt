@@ -15,7 +15,7 @@ use Rattle.larq.specs.Events.{ahead, settledAt, moved}
 use Rattle.channel.specs.Place.{window, cellAt, recordWith}
 use Rattle.channel.specs.Call.{Did, parts, buffers}
 use Rattle.channel.specs.Slots.{Laid, Missed, stamped, waitingOf, earlier}
-use Rattle.channel.specs.Steps.{Sized, Ready, recordIn, spanIn, walkOf, Finished, IsGrown, cellsOf, handlesWith, marksWith, IsAhead}
+use Rattle.channel.specs.Steps.{Sized, Ready, recordIn, spanIn, walkOf, Finished, answerOf, IsGrown, cellsOf, handlesWith, marksWith, IsAhead}
 use Rattle.channel.specs.declared.Answer.{Answer}
 use Rattle.channel.specs.declared.record.Record.{Record}
 use Rattle.channel.specs.declared.record.Grown.{Grown}
@@ -130,17 +130,17 @@ module _ {r : Record} {W H K : List ℕ} {s k t : ℕ} {last : Last} {to : Grown
       omega (arith, handing .end-is, up-to, up-few, laid-length handing),
     )
 
-    pub ahead-did : {w₂ u₂ : List ℕ} {had : Counts} {a : Answer} → had .up ≡ end → had .nack ≡ to .count → had .lost ≡ to .over - end
-        → Finished (to .kept) 0 (parts w₁ h₂ k₂) had u₁ w₂ u₂ a
-        → Did (ahead channel.window (recordIn r W H K) t s k (cellsOf last)) (parts W H K) (parts w₂ h₂ k₂) (buffers U [] N) (buffers u₂ [] q₁) a
-    ahead-did {w₂} {u₂} {had} {a} eu en el f =
-        let all : Laid (handed ++ again .up) 0 U u₂ (a .up) = laid-laid handing (rw (walk-to, eu) at (f .up)) in
+    pub ahead-did : {w₂ u₂ : List ℕ} {had has : Counts} → had .up ≡ end → had .nack ≡ to .count → had .lost ≡ to .over - end
+        → Finished (to .kept) 0 (parts w₁ h₂ k₂) had u₁ w₂ u₂ has
+        → Did (ahead channel.window (recordIn r W H K) t s k (cellsOf last)) (parts W H K) (parts w₂ h₂ k₂) (buffers U [] N) (buffers u₂ [] q₁) (answerOf has)
+    ahead-did {u₂ = u₂} {has = has} eu en el f =
+        let all : Laid (handed ++ again .up) 0 U u₂ (has .up) = laid-laid handing (rw (walk-to, eu) at (f .up)) in
         rw rule-ahead
         (record {
           answered = record {
-            number = f .number;
+            number = refl;
             up = wrote-front all (omega (arith, length-append handed (again .up), up-few));
-            returned = rw (f .returned) (wrote-none []);
+            returned = wrote-none [];
             nack =
                 wrote-front (record { end-is = f .nack ∙ en ∙ sym (zero-add _ ∙ length-rising (to .first .0) (to .count)); buffer = missed .nack })
                 (rw (length-rising (to .first .0) (to .count)) (omega (arith, room-nack, count-room)));

@@ -18,9 +18,10 @@ use Rattle.larq.specs.Events.{asked, filling, filled, settledAt, moved, taken}
 use Rattle.channel.specs.Place.{window, cellAt, recordWith, recordOf}
 use Rattle.channel.specs.Call.{Did, Says, parts, buffers}
 use Rattle.channel.specs.Slots.{earlier}
-use Rattle.channel.specs.Steps.{Sized, Ready, recordIn, spanIn, walkOf, Finished, nothing, filledAt}
+use Rattle.channel.specs.Steps.{Sized, Ready, recordIn, spanIn, walkOf, Finished, nothing, answerOf, filledAt}
 use Rattle.channel.specs.Judge.{MissingAt, KnownAt}
 use Rattle.channel.specs.declared.Answer.{Answer}
+use Rattle.channel.specs.declared.act.Counts.{Counts}
 use Rattle.channel.specs.declared.record.Record.{Record}
 use Rattle.channel.proofs.Rounds.{slot-steps}
 use Rattle.channel.proofs.Windows.{length-window, window-at, window-same, window-set, cell-waits, cell-missing}
@@ -115,15 +116,15 @@ module _ {r : Record} {W H K : List ℕ} (ready : Ready r W H K) (s x t : ℕ) w
       pub filled-room : (U : List ℕ) → 32 ≤ length U → 0 + length (walkOf to 0 W h k .up) ≤ length U
       filled-room U room = omega (arith, ap (λ p. length (p .up)) walk-to, few-up)
 
-      pub filled-did : {U w u : List ℕ} {a : Answer} → Finished to 0 (parts W h k) nothing U w u a → 32 ≤ length U
-          → Did (filledAt (recordIn r W H K) t s x) (parts W H K) (parts w h k) (buffers U [] []) (buffers u [] []) a
-      filled-did {U} {w} {u} {a} f room =
+      pub filled-did : {U w u : List ℕ} {n : Counts} → Finished to 0 (parts W h k) nothing U w u n → 32 ≤ length U
+          → Did (filledAt (recordIn r W H K) t s x) (parts W H K) (parts w h k) (buffers U [] []) (buffers u [] []) (answerOf n)
+      filled-did f room =
           rw rule-missing
           (record {
             answered = record {
-              number = f .number;
+              number = refl;
               up = wrote-front (rw walk-to at (f .up)) (omega (arith, few-up));
-              returned = rw (f .returned) (wrote-none []);
+              returned = wrote-none [];
               nack = rw (f .nack) (wrote-none []);
               lost = f .lost ∙ zero-add _ ∙ ap (λ p. p .lost) walk-to;
             };

@@ -65,13 +65,15 @@ pub record Settles (r : Record) (until : ℕ) (words handles marks : List ℕ) (
 abbrev pub nothing : Counts
 nothing = record { up = 0; nack = 0; lost = 0 }
 
+-- the answer that counts make, of an accepted call that gives nothing back
+abbrev pub answerOf : Counts → Answer
+answerOf k = record { number = 0; up = k .up; returned = 0; nack = k .nack; lost = k .lost }
+
 -- M has settled and the record is laid down, in a call that had answered so much before
-pub record Finished (r : Record) (until : ℕ) (p : Parts) (had : Counts) (before w after : List ℕ) (a : Answer) : Type 0 where
-  pub number : a .number ≡ 0
-  pub up : Laid (walkOf r until (p .words) (p .handles) (p .marks) .up) (had .up) before after (a .up)
-  pub returned : a .returned ≡ 0
-  pub nack : a .nack ≡ had .nack
-  pub lost : a .lost ≡ had .lost + walkOf r until (p .words) (p .handles) (p .marks) .lost
+pub record Finished (r : Record) (until : ℕ) (p : Parts) (had : Counts) (before w after : List ℕ) (k : Counts) : Type 0 where
+  pub up : Laid (walkOf r until (p .words) (p .handles) (p .marks) .up) (had .up) before after (k .up)
+  pub nack : k .nack ≡ had .nack
+  pub lost : k .lost ≡ had .lost + walkOf r until (p .words) (p .handles) (p .marks) .lost
   pub became : recordOf w (p .handles) (p .marks) ≡ moved (r .current .0) (r .latest) (walkOf r until (p .words) (p .handles) (p .marks))
 
 -- a step ahead to s, by which so many numbers become missing: the window when M has passed what is then too much

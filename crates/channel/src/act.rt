@@ -8,7 +8,7 @@ ghost use Rattle.larq.specs.Channel.{window};
 ghost use Rattle.larq.specs.Events.{ahead, restarted, close-on};
 ghost use Rattle.larq.specs.Settling.{hold};
 ghost use Rattle.channel.specs.Call.{Did, Says, parts, buffers};
-ghost use Rattle.channel.specs.Steps.{Sized, Ready, recordIn, walkOf, Finished, cellsOf, handlesWith, marksWith, IsAhead, filledAt, headed};
+ghost use Rattle.channel.specs.Steps.{Sized, Ready, recordIn, walkOf, Finished, answerOf, cellsOf, handlesWith, marksWith, IsAhead, filledAt, headed};
 ghost use Rattle.channel.specs.Judge.{MissingAt};
 use crate::Answer;
 use crate::record::Record;
@@ -27,7 +27,7 @@ pub(crate) enum Last {
     Missing,
 }
 
-// What a call has answered before M settles: handles gone up, numbers asked for, numbers given up.
+// What a call answers, so far or in all: handles gone up, numbers asked for, numbers given up. It is handed on instead of an `Answer`, which is put together once.
 pub(crate) struct Counts {
     pub(crate) up: usize,
     pub(crate) nack: usize,
@@ -40,6 +40,19 @@ impl Counts {
         nack: 0,
         lost: 0,
     };
+
+    // The answer of an accepted call that gives nothing back.
+    pub(crate) fn answer(self) -> Answer
+        ensures { λ a. ⌜ a ≡ answerOf self ⌝ }
+    {
+        Answer {
+            number: 0,
+            up: self.up,
+            returned: 0,
+            nack: self.nack,
+            lost: self.lost,
+        }
+    }
 }
 
 // No time lies before 0: up to here nothing is missing for too long.
@@ -66,19 +79,17 @@ pub(crate) fn settle(
     up: &mut [u32],
     had: Counts,
     until: u64,
-) -> Answer
+) -> Counts
     requires { ⌜ Sized (now words) (now handles) (now marks) ⌝ }
     requires { ⌜ (r .oldest .0 < 4096) × (had .lost ≤ 4096) × (had .up + length (walkOf r until (now words) (now handles) (now marks) .up) ≤ length (now up)) ⌝ }
-    ensures { λ a. ⌜ Finished r until (parts (now (words .entry)) (now (handles .entry)) (now (marks .entry))) had (now (up .entry)) (now (words .exit)) (now (up .exit)) a ⌝ }
+    ensures { λ k. ⌜ Finished r until (parts (now (words .entry)) (now (handles .entry)) (now (marks .entry))) had (now (up .entry)) (now (words .exit)) (now (up .exit)) k ⌝ }
 {
     let at = had.up;
     let done = r.settled(words, handles, marks, up, at, until);
     let kept = done.kept;
     kept.stored(words);
-    Answer {
-        number: 0,
+    Counts {
         up: done.up,
-        returned: 0,
         nack: had.nack,
         lost: had.lost + done.lost,
     }
@@ -96,11 +107,11 @@ pub(crate) fn ahead(
     made: u16,
     last: Last,
     time: u64,
-) -> Answer
+) -> Counts
     requires { ⌜ Ready r (now words) (now handles) (now marks) × (s .0 < 4096) ⌝ }
     requires { ⌜ (32 ≤ length (now up)) × (32 ≤ length (now nack)) ⌝ }
     requires { ⌜ IsAhead (r .current .0) (s .0) made last ⌝ }
-    ensures { λ a. ⌜ Did (ahead window (recordIn r (now (words .entry)) (now (handles .entry)) (now (marks .entry))) time (s .0) made (cellsOf last)) (parts (now (words .entry)) (now (handles .entry)) (now (marks .entry))) (parts (now (words .exit)) (now (handles .exit)) (now (marks .exit))) (buffers (now (up .entry)) [] (now (nack .entry))) (buffers (now (up .exit)) [] (now (nack .exit))) a ⌝ }
+    ensures { λ k. ⌜ Did (ahead window (recordIn r (now (words .entry)) (now (handles .entry)) (now (marks .entry))) time (s .0) made (cellsOf last)) (parts (now (words .entry)) (now (handles .entry)) (now (marks .entry))) (parts (now (words .exit)) (now (handles .exit)) (now (marks .exit))) (buffers (now (up .entry)) [] (now (nack .entry))) (buffers (now (up .exit)) [] (now (nack .exit))) (answerOf k) ⌝ }
 {
     let g = r.grown(s, made, time);
     let passed = hand(handles, marks, r.oldest, g.old, up, 0);
@@ -125,10 +136,10 @@ pub(crate) fn filled(
     s: Seq,
     handle: u32,
     time: u64,
-) -> Answer
+) -> Counts
     requires { ⌜ Ready r (now words) (now handles) (now marks) × MissingAt r (now marks) (s .0) ⌝ }
     requires { ⌜ 32 ≤ length (now up) ⌝ }
-    ensures { λ a. ⌜ Did (filledAt (recordIn r (now (words .entry)) (now (handles .entry)) (now (marks .entry))) time (s .0) handle) (parts (now (words .entry)) (now (handles .entry)) (now (marks .entry))) (parts (now (words .exit)) (now (handles .exit)) (now (marks .exit))) (buffers (now (up .entry)) [] []) (buffers (now (up .exit)) [] []) a ⌝ }
+    ensures { λ k. ⌜ Did (filledAt (recordIn r (now (words .entry)) (now (handles .entry)) (now (marks .entry))) time (s .0) handle) (parts (now (words .entry)) (now (handles .entry)) (now (marks .entry))) (parts (now (words .exit)) (now (handles .exit)) (now (marks .exit))) (buffers (now (up .entry)) [] []) (buffers (now (up .exit)) [] []) (answerOf k) ⌝ }
 {
     bring(handles, marks, s, Last::Waits(handle));
     let kept = r.arrived(r.current, time);

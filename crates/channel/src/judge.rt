@@ -119,8 +119,8 @@ pub(crate) fn judge(
     Judged::Open(read(words))
 }
 
-// Where the number of a frame lies: next after C while nothing is missing; ahead of C by so many; in the window and missing; waiting
-// already or before M; or far.
+// Where the number of a frame lies: it is M, while nothing is missing; ahead of C by so many; in the window and missing; waiting already or
+// before M; or far. The first is what nearly every frame is, and is seen without the distance.
 pub(crate) enum Spot {
     Next,
     Ahead(u16),
@@ -136,15 +136,14 @@ impl Record {
     {
         let c = self.current;
         let m = self.oldest;
+        let n = self.span();
+        if (s.0 == m.0) & (n == 0) {
+            return Spot::Next;
+        }
         match c.seen(s) {
-            Side::Ahead(d) => {
-                if (d == 1) & (self.span() == 0) {
-                    return Spot::Next;
-                }
-                Spot::Ahead(d)
-            }
+            Side::Ahead(d) => Spot::Ahead(d),
             Side::Behind(_) => {
-                if self.span() <= m.steps(s) {
+                if n <= m.steps(s) {
                     return Spot::Known;
                 }
                 let j = slot(s);

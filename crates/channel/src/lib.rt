@@ -122,9 +122,9 @@ fn arrive(
             d - 1,
             Last::Waits(handle),
             time,
-        ),
+        ).answer(),
         Spot::Next => handed_up(words, up, s, handle, time),
-        Spot::Missing => filled(r, words, handles, marks, up, s, handle, time),
+        Spot::Missing => filled(r, words, handles, marks, up, s, handle, time).answer(),
         Spot::Known => sent_back(words, returned, handle, time),
         Spot::Far => restarted(r, words, handles, marks, up, returned, s, handle, time),
     }
@@ -158,7 +158,7 @@ fn remind(
             d,
             Last::Missing,
             time,
-        ),
+        ).answer(),
         Side::Behind(_) => noted(words, time),
         Side::Far => refused(8),
     }
@@ -225,7 +225,7 @@ pub fn tick(
                 up,
                 Counts::NONE,
                 stale_before(time),
-            )
+            ).answer()
         }
     }
 }

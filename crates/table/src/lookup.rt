@@ -31,7 +31,7 @@ fn is_free(keys: &[u64], i: usize) -> bool
     keys[KEY_WORDS * i] == 0
 }
 
-// The first place that stores the key of these two words. Four places a turn: the walk is the dearest part of an event at a late place.
+// The first place that stores the key of these two words.
 pub(crate) fn find(keys: &[u64], first: u64, second: u64) -> Found
     requires { ⌜ length (now keys) ≡ 128 ⌝ }
     ensures { λ r. ⌜ r ≡ firstPlace (stores (now (keys .entry)) first second) ⌝ }
@@ -44,16 +44,7 @@ pub(crate) fn find(keys: &[u64], first: u64, second: u64) -> Found
         if is_stored(keys, i, first, second) {
             break Found::At(i);
         }
-        if is_stored(keys, i + 1, first, second) {
-            break Found::At(i + 1);
-        }
-        if is_stored(keys, i + 2, first, second) {
-            break Found::At(i + 2);
-        }
-        if is_stored(keys, i + 3, first, second) {
-            break Found::At(i + 3);
-        }
-        i += 4;
+        i += 1;
     };
     place
 }

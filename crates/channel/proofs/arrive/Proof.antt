@@ -45,6 +45,9 @@ ahead-requires c κs =
     let p = at-entry l .pre in
     (p .0, ((p .1 .0, p .1 .2), ahead-frame (a .r .current .0) (a .s .0) _ (lies l _ (c .before .before .before .before .before .before .d .given .1)) (a .handle)))
 
+answer-requires : tie.Need-answer-requires
+answer-requires c κs = search needs
+
 enum-told : tie.Need-enum-told
 enum-told c = search needs
 
@@ -59,6 +62,9 @@ filled-requires c κs =
     let l = c .before .before .before .before .before .before in
     let p = at-entry l .pre in
     ((p .0 .0, lies l Missing (c .before .before .before .before .enum-told2 .given .1)), p .1 .0)
+
+answer-requires-2 : tie.Need-answer-requires-2
+answer-requires-2 c κs = search needs
 
 enum-told-3 : tie.Need-enum-told-3
 enum-told-3 c = search needs
@@ -89,10 +95,10 @@ same-length-5 c = search needs
 
 returns : tie.Need-returns
 returns c =
-    let l = c .before .before .before .before .before .before .before .before .before .before .before .before .before .before .before .before .before .before .before in
+    let l = c .before .before .before .before .before .before .before .before .before .before .before .before .before .before .before .before .before .before .before .before in
     let a = at-entry l .args in
     let p = at-entry l .pre in
-    frame-ahead (a .s .0) (a .handle) (a .time) (p .0 .0) (a .returned .now) (lies l _ (c .before .before .before .before .before .before .before .before .before .before .before .before .before .before .before .before .before .d .given .1)) (c .before .before .before .before .before .before .before .before .before .before .ahead .ensures)
+    frame-ahead (a .s .0) (a .handle) (a .time) (p .0 .0) (a .returned .now) (lies l _ (c .before .before .before .before .before .before .before .before .before .before .before .before .before .before .before .before .before .before .d .given .1)) (c .before .before .before .before .before .before .before .before .before .before .before .ahead .ensures) (c .answer .ensures)
 
 same-length-6 : tie.Need-same-length-6
 same-length-6 c = search needs
@@ -126,11 +132,11 @@ same-length-12 c = search needs
 
 returns-3 : tie.Need-returns-3
 returns-3 c =
-    let l = c .before .before .before .before .before .before .before .before .before .before .before .before .before .before .before in
+    let l = c .before .before .before .before .before .before .before .before .before .before .before .before .before .before .before .before in
     let a = at-entry l .args in
     let p = at-entry l .pre in
-    frame-missing (a .s .0) (a .handle) (a .time) (p .0 .0) (a .returned .now) (a .nack .now) (lies l Missing (c .before .before .before .before .before .before .before .before .before .before .before .before .before .enum-told2 .given .1))
-    (c .before .before .before .before .before .before .before .before .filled .ensures)
+    frame-missing (a .s .0) (a .handle) (a .time) (p .0 .0) (a .returned .now) (a .nack .now) (lies l Missing (c .before .before .before .before .before .before .before .before .before .before .before .before .before .before .enum-told2 .given .1))
+    (c .before .before .before .before .before .before .before .before .before .filled .ensures) (c .answer2 .ensures)
 
 same-length-13 : tie.Need-same-length-13
 same-length-13 c = search needs
@@ -180,10 +186,12 @@ arrive-spec =
     enum-known-d
     sub-ahead
     ahead-requires
+    answer-requires
     enum-told
     handed-up-requires
     enum-told-2
     filled-requires
+    answer-requires-2
     enum-told-3
     sent-back-requires
     enum-told-4

@@ -56,6 +56,9 @@ settle-requires c κs =
       ),
     )
 
+answer-requires : tie.Need-answer-requires
+answer-requires c κs = search needs
+
 same-length : tie.Need-same-length
 same-length c = search needs
 
@@ -81,11 +84,11 @@ same-length-6 c = search needs
 
 returns-2 : tie.Need-returns-2
 returns-2 c =
-    let e = c .before .before .before .before .before .before .before .before .before .before .before .before .before .before .before .before .before .before .before .before .before .before .before in
-    let opened = opened-by (lent e) (lends e) 0 (e .args .time) (c .before .before .before .before .before .before .before .before .before .before .before .before .before .before .judge .ensures) (c .before .before .before .before .before .before .before .before .before .before .before .before .r .given .1) in
-    let to = c .before .before .before .before .before .before .before .before .before .before .arrived .ensures in
+    let e = c .before .before .before .before .before .before .before .before .before .before .before .before .before .before .before .before .before .before .before .before .before .before .before .before in
+    let opened = opened-by (lent e) (lends e) 0 (e .args .time) (c .before .before .before .before .before .before .before .before .before .before .before .before .before .before .before .judge .ensures) (c .before .before .before .before .before .before .before .before .before .before .before .before .before .r .given .1) in
+    let to = c .before .before .before .before .before .before .before .before .before .before .before .arrived .ensures in
     called-tick opened
-    (tick-did (ready opened) (e .args .time) (c .before .before .before .before .before .stale-before .ensures) (to .0) (to .1) (to .2) (c .before .before .before .before .settle .ensures) (enough opened .up-room))
+    (tick-did (ready opened) (e .args .time) (c .before .before .before .before .before .before .stale-before .ensures) (to .0) (to .1) (to .2) (c .before .before .before .before .before .settle .ensures) (enough opened .up-room)) (c .answer .ensures)
 
 pub tick-spec : {M : Type 1} → statement M
 tick-spec =
@@ -98,6 +101,7 @@ tick-spec =
     arrived-requires
     stale-before-requires
     settle-requires
+    answer-requires
     same-length
     same-length-2
     returns

@@ -36,9 +36,7 @@ returns c =
     let a = c .before .before .before .before .before .before .before .before .before .before .before .before .before .before .before .before in
     let done = c .before .before .before .before .before .before .before .before .before .settled in
     record {
-      number = refl;
       up = done .ensures .up;
-      returned = refl;
       nack = refl;
       lost = ap (λ n. a .args .had .lost + n) (done .ensures .lost);
       became =
