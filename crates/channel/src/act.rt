@@ -27,7 +27,8 @@ pub(crate) enum Last {
     Missing,
 }
 
-// What a call answers, so far or in all: handles gone up, numbers asked for, numbers given up. It is handed on instead of an `Answer`, which is put together once.
+// What a call answers, so far or in all: handles gone up, numbers asked for, numbers given up. It is handed on instead of an `Answer`,
+// which is put together once.
 pub(crate) struct Counts {
     pub(crate) up: usize,
     pub(crate) nack: usize,
@@ -111,7 +112,11 @@ pub(crate) fn ahead(
     requires { ⌜ Ready r (now words) (now handles) (now marks) × (s .0 < 4096) ⌝ }
     requires { ⌜ (32 ≤ length (now up)) × (32 ≤ length (now nack)) ⌝ }
     requires { ⌜ IsAhead (r .current .0) (s .0) made last ⌝ }
-    ensures { λ k. ⌜ Did (ahead window (recordIn r (now (words .entry)) (now (handles .entry)) (now (marks .entry))) time (s .0) made (cellsOf last)) (parts (now (words .entry)) (now (handles .entry)) (now (marks .entry))) (parts (now (words .exit)) (now (handles .exit)) (now (marks .exit))) (buffers (now (up .entry)) [] (now (nack .entry))) (buffers (now (up .exit)) [] (now (nack .exit))) (answerOf k) ⌝ }
+    ensures { λ k. ⌜ Did (ahead window (recordIn r (now (words .entry)) (now (handles .entry)) (now (marks .entry))) time (s .0) made (cellsOf last))
+        (parts (now (words .entry)) (now (handles .entry)) (now (marks .entry)))
+        (parts (now (words .exit)) (now (handles .exit)) (now (marks .exit)))
+        (buffers (now (up .entry)) [] (now (nack .entry)))
+        (buffers (now (up .exit)) [] (now (nack .exit))) (answerOf k) ⌝ }
 {
     let g = r.grown(s, made, time);
     let passed = hand(handles, marks, r.oldest, g.old, up, 0);
@@ -139,7 +144,11 @@ pub(crate) fn filled(
 ) -> Counts
     requires { ⌜ Ready r (now words) (now handles) (now marks) × MissingAt r (now marks) (s .0) ⌝ }
     requires { ⌜ 32 ≤ length (now up) ⌝ }
-    ensures { λ k. ⌜ Did (filledAt (recordIn r (now (words .entry)) (now (handles .entry)) (now (marks .entry))) time (s .0) handle) (parts (now (words .entry)) (now (handles .entry)) (now (marks .entry))) (parts (now (words .exit)) (now (handles .exit)) (now (marks .exit))) (buffers (now (up .entry)) [] []) (buffers (now (up .exit)) [] []) (answerOf k) ⌝ }
+    ensures { λ k. ⌜ Did (filledAt (recordIn r (now (words .entry)) (now (handles .entry)) (now (marks .entry))) time (s .0) handle)
+        (parts (now (words .entry)) (now (handles .entry)) (now (marks .entry)))
+        (parts (now (words .exit)) (now (handles .exit)) (now (marks .exit)))
+        (buffers (now (up .entry)) [] [])
+        (buffers (now (up .exit)) [] []) (answerOf k) ⌝ }
 {
     bring(handles, marks, s, Last::Waits(handle));
     let kept = r.arrived(r.current, time);
@@ -192,7 +201,11 @@ pub(crate) fn restarted(
 ) -> Answer
     requires { ⌜ Ready r (now words) (now handles) (now marks) × (s .0 < 4096) ⌝ }
     requires { ⌜ (32 ≤ length (now up)) × (32 ≤ length (now returned)) ⌝ }
-    ensures { λ a. ⌜ Did (restarted (recordIn r (now (words .entry)) (now (handles .entry)) (now (marks .entry))) time (s .0) handle) (parts (now (words .entry)) (now (handles .entry)) (now (marks .entry))) (parts (now (words .exit)) (now (handles .entry)) (now (marks .entry))) (buffers (now (up .entry)) (now (returned .entry)) []) (buffers (now (up .exit)) (now (returned .exit)) []) a ⌝ }
+    ensures { λ a. ⌜ Did (restarted (recordIn r (now (words .entry)) (now (handles .entry)) (now (marks .entry))) time (s .0) handle)
+        (parts (now (words .entry)) (now (handles .entry)) (now (marks .entry)))
+        (parts (now (words .exit)) (now (handles .entry)) (now (marks .entry)))
+        (buffers (now (up .entry)) (now (returned .entry)) [])
+        (buffers (now (up .exit)) (now (returned .exit)) []) a ⌝ }
 {
     let back = hand(handles, marks, r.oldest, r.span(), returned, 0);
     let mut answer = handed_up(words, up, s, handle, time);
@@ -231,7 +244,11 @@ pub(crate) fn closed(
     returned: &mut [u32],
 ) -> Answer
     requires { ⌜ Ready r (now words) (now handles) (now marks) × (32 ≤ length (now returned)) ⌝ }
-    ensures { λ a. ⌜ Did (close-on (recordIn r (now (words .entry)) (now (handles .entry)) (now (marks .entry)))) (parts (now (words .entry)) (now (handles .entry)) (now (marks .entry))) (parts (now (words .exit)) (now (handles .exit)) (now (marks .exit))) (buffers [] (now (returned .entry)) []) (buffers [] (now (returned .exit)) []) a ⌝ }
+    ensures { λ a. ⌜ Did (close-on (recordIn r (now (words .entry)) (now (handles .entry)) (now (marks .entry))))
+        (parts (now (words .entry)) (now (handles .entry)) (now (marks .entry)))
+        (parts (now (words .exit)) (now (handles .exit)) (now (marks .exit)))
+        (buffers [] (now (returned .entry)) [])
+        (buffers [] (now (returned .exit)) []) a ⌝ }
 {
     let count = hand(handles, marks, r.oldest, r.span(), returned, 0);
     zero_u64(words);

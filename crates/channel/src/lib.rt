@@ -65,7 +65,11 @@ pub fn data(
     handle: u32,
     time: u64,
 ) -> Answer
-    ensures { λ r. ⌜ Called (frame number handle) time (parts (now (words .entry)) (now (handles .entry)) (now (marks .entry))) (parts (now (words .exit)) (now (handles .exit)) (now (marks .exit))) (buffers (now (up .entry)) (now (returned .entry)) (now (nack .entry))) (buffers (now (up .exit)) (now (returned .exit)) (now (nack .exit))) r ⌝ }
+    ensures { λ r. ⌜ Called (frame number handle) time
+        (parts (now (words .entry)) (now (handles .entry)) (now (marks .entry)))
+        (parts (now (words .exit)) (now (handles .exit)) (now (marks .exit)))
+        (buffers (now (up .entry)) (now (returned .entry)) (now (nack .entry)))
+        (buffers (now (up .exit)) (now (returned .exit)) (now (nack .exit))) r ⌝ }
 {
     match judge(
         words,
@@ -108,7 +112,11 @@ fn arrive(
 ) -> Answer
     requires { ⌜ Ready r (now words) (now handles) (now marks) × (s .0 < 4096) ⌝ }
     requires { ⌜ (32 ≤ length (now up)) × (32 ≤ length (now returned)) × (32 ≤ length (now nack)) ⌝ }
-    ensures { λ a. ⌜ Did (dataAt (recordIn r (now (words .entry)) (now (handles .entry)) (now (marks .entry))) time (s .0) handle) (parts (now (words .entry)) (now (handles .entry)) (now (marks .entry))) (parts (now (words .exit)) (now (handles .exit)) (now (marks .exit))) (buffers (now (up .entry)) (now (returned .entry)) (now (nack .entry))) (buffers (now (up .exit)) (now (returned .exit)) (now (nack .exit))) a ⌝ }
+    ensures { λ a. ⌜ Did (dataAt (recordIn r (now (words .entry)) (now (handles .entry)) (now (marks .entry))) time (s .0) handle)
+        (parts (now (words .entry)) (now (handles .entry)) (now (marks .entry)))
+        (parts (now (words .exit)) (now (handles .exit)) (now (marks .exit)))
+        (buffers (now (up .entry)) (now (returned .entry)) (now (nack .entry)))
+        (buffers (now (up .exit)) (now (returned .exit)) (now (nack .exit))) a ⌝ }
 {
     match r.spot(marks, s) {
         Spot::Ahead(d) => ahead(
@@ -143,7 +151,11 @@ fn remind(
 ) -> Answer
     requires { ⌜ Ready r (now words) (now handles) (now marks) × (s .0 < 4096) ⌝ }
     requires { ⌜ (32 ≤ length (now up)) × (32 ≤ length (now nack)) ⌝ }
-    ensures { λ a. ⌜ Did (reminderAt (recordIn r (now (words .entry)) (now (handles .entry)) (now (marks .entry))) time (s .0)) (parts (now (words .entry)) (now (handles .entry)) (now (marks .entry))) (parts (now (words .exit)) (now (handles .exit)) (now (marks .exit))) (buffers (now (up .entry)) [] (now (nack .entry))) (buffers (now (up .exit)) [] (now (nack .exit))) a ⌝ }
+    ensures { λ a. ⌜ Did (reminderAt (recordIn r (now (words .entry)) (now (handles .entry)) (now (marks .entry))) time (s .0))
+        (parts (now (words .entry)) (now (handles .entry)) (now (marks .entry)))
+        (parts (now (words .exit)) (now (handles .exit)) (now (marks .exit)))
+        (buffers (now (up .entry)) [] (now (nack .entry)))
+        (buffers (now (up .exit)) [] (now (nack .exit))) a ⌝ }
 {
     let c = r.current;
     match c.seen(s) {
@@ -175,7 +187,11 @@ pub fn reminder(
     number: u16,
     time: u64,
 ) -> Answer
-    ensures { λ r. ⌜ Called (reminder number) time (parts (now (words .entry)) (now (handles .entry)) (now (marks .entry))) (parts (now (words .exit)) (now (handles .exit)) (now (marks .exit))) (buffers (now (up .entry)) (now (returned .entry)) (now (nack .entry))) (buffers (now (up .exit)) (now (returned .exit)) (now (nack .exit))) r ⌝ }
+    ensures { λ r. ⌜ Called (reminder number) time
+        (parts (now (words .entry)) (now (handles .entry)) (now (marks .entry)))
+        (parts (now (words .exit)) (now (handles .exit)) (now (marks .exit)))
+        (buffers (now (up .entry)) (now (returned .entry)) (now (nack .entry)))
+        (buffers (now (up .exit)) (now (returned .exit)) (now (nack .exit))) r ⌝ }
 {
     match judge(
         words,
@@ -202,7 +218,11 @@ pub fn tick(
     nack: &mut [u16],
     time: u64,
 ) -> Answer
-    ensures { λ r. ⌜ Called tick time (parts (now (words .entry)) (now (handles .entry)) (now (marks .entry))) (parts (now (words .exit)) (now (handles .exit)) (now (marks .exit))) (buffers (now (up .entry)) (now (returned .entry)) (now (nack .entry))) (buffers (now (up .exit)) (now (returned .exit)) (now (nack .exit))) r ⌝ }
+    ensures { λ r. ⌜ Called tick time
+        (parts (now (words .entry)) (now (handles .entry)) (now (marks .entry)))
+        (parts (now (words .exit)) (now (handles .exit)) (now (marks .exit)))
+        (buffers (now (up .entry)) (now (returned .entry)) (now (nack .entry)))
+        (buffers (now (up .exit)) (now (returned .exit)) (now (nack .exit))) r ⌝ }
 {
     match judge(
         words,
@@ -240,7 +260,11 @@ pub fn close(
     nack: &mut [u16],
     time: u64,
 ) -> Answer
-    ensures { λ r. ⌜ Called close time (parts (now (words .entry)) (now (handles .entry)) (now (marks .entry))) (parts (now (words .exit)) (now (handles .exit)) (now (marks .exit))) (buffers (now (up .entry)) (now (returned .entry)) (now (nack .entry))) (buffers (now (up .exit)) (now (returned .exit)) (now (nack .exit))) r ⌝ }
+    ensures { λ r. ⌜ Called close time
+        (parts (now (words .entry)) (now (handles .entry)) (now (marks .entry)))
+        (parts (now (words .exit)) (now (handles .exit)) (now (marks .exit)))
+        (buffers (now (up .entry)) (now (returned .entry)) (now (nack .entry)))
+        (buffers (now (up .exit)) (now (returned .exit)) (now (nack .exit))) r ⌝ }
 {
     match judge(
         words,
