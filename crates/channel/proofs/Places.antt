@@ -10,14 +10,16 @@ use Rattle.ring.specs.Ring.{size, forward, steps}
 use Rattle.larq.specs.Channel.{Cell, Channel}
 use Rattle.larq.specs.Settling.{Walked, walk}
 use Rattle.larq.specs.Events.{moved, taken}
-use Rattle.channel.specs.Place.{window, cellAt, spanOf, recordWith, recordOf}
-use Rattle.channel.specs.Slots.{earlier}
-use Rattle.channel.specs.Steps.{headed, walkOf, Settles, Finished}
-use Rattle.channel.specs.declared.record.Record.{Record}
-use Rattle.channel.specs.declared.window.Settled.{Settled}
-use Rattle.channel.proofs.Rounds.{span-passed}
-use Rattle.channel.proofs.Windows.{drop-window, length-window, window-same}
-use Rattle.channel.proofs.Walks.{passes, Passed, passed}
+use Rattle.record.specs.Place.{window, cellAt, spanOf, recordWith, recordOf}
+use Rattle.record.specs.Slots.{earlier, Settles, settleNumbers}
+use Rattle.channel.specs.Steps.{Sized, headed, walkOf, Finished}
+use Rattle.record.specs.declared.Record.{Record}
+use Rattle.record.specs.declared.window.Settled.{Settled}
+use Rattle.record.proofs.Rounds.{span-passed}
+use Rattle.record.proofs.Windows.{drop-window, length-window, window-same}
+use Rattle.record.specs.Moving.{spanIn}
+use Rattle.record.proofs.Settling.{settles-all}
+use Rattle.record.proofs.Walks.{passes, Passed, passed}
 
 -- the three words at the head have no part in the cells
 module _ (w h k : List ℕ) (c m t : ℕ) (sized : 2 < length w) where
@@ -71,9 +73,15 @@ walk-window givesUp f c m ring =
     ∙ ap (window f (forward m (passes p))) (sym (span-passed c m (passes p) few))
     ∙ sym (ap (λ x. window f x (spanOf c x)) (q .oldest))
 
+-- the parts are those of a place, and what goes up has room: M walks over the whole window
+pub walked : {r : Record} {until : ℕ} {w h k : List ℕ} {at : ℕ} {before after : List ℕ} {s : Settled} → Sized w h k
+    → at + length (walkOf r until w h k .up) ≤ length before → Settles r (settleNumbers w h k (spanIn r) at before) until w h k at before after s
+    → Settles r (spanIn r) until w h k at before after s
+walked sized room = settles-all (sized .words) (sized .handles) (sized .marks) (omega arith)
+
 -- the record when M has settled and the three words are laid down
 pub settled-record : (r : Record) (until : ℕ) (w h k : List ℕ) (at : ℕ) (before after : List ℕ) (s : Settled) → 2 < length w → r .oldest .0 < size
-    → Settles r until w h k at before after s
+    → Settles r (spanIn r) until w h k at before after s
     → recordOf (headed w (s .kept .current .0) (s .kept .oldest .0) (s .kept .latest)) h k
     ≡ moved (r .current .0) (r .latest) (walkOf r until w h k)
 unfolding recordWith

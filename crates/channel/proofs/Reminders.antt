@@ -15,16 +15,17 @@ use Rattle.larq.specs.Settling.{Walked, walk, hold, stale}
 use Rattle.larq.specs.Answer.{Outcome, refused, accepted, holds}
 use Rattle.larq.specs.Events.{reminder, tick, act-on, reminder-on, tick-on, ahead, noted, asked, settledAt, moved, taken}
 use Rattle.larq.specs.Table.{notFar}
-use Rattle.channel.specs.Place.{window, cellAt, recordWith, recordOf}
+use Rattle.record.specs.Place.{window, cellAt, recordWith, recordOf}
 use Rattle.channel.specs.Call.{Parts, Buffers, parts, buffers, Says, Did, Called}
-use Rattle.channel.specs.Slots.{earlier}
-use Rattle.channel.specs.Steps.{Ready, recordIn, spanIn, walkOf, Finished, nothing, answerOf, reminderAt}
+use Rattle.record.specs.Slots.{earlier}
+use Rattle.record.specs.Moving.{recordIn, spanIn}
+use Rattle.channel.specs.Steps.{Ready, walkOf, Finished, nothing, answerOf, reminderAt}
 use Rattle.channel.specs.declared.Answer.{Answer}
 use Rattle.channel.specs.declared.act.Counts.{Counts}
-use Rattle.channel.specs.declared.record.Record.{Record}
-use Rattle.channel.proofs.Windows.{length-window}
-use Rattle.channel.proofs.Laying.{wrote-front, wrote-none}
-use Rattle.channel.proofs.Walks.{up-few, waiting-few, walk-stale}
+use Rattle.record.specs.declared.Record.{Record}
+use Rattle.record.proofs.Windows.{length-window}
+use Rattle.record.proofs.Laying.{wrote-front, wrote-none}
+use Rattle.record.proofs.Walks.{up-few, waiting-few, walk-stale}
 use Rattle.channel.proofs.Places.{record-taken}
 use Rattle.channel.proofs.Opening.{Opened, ready}
 use Rattle.channel.proofs.Calling.{answered-none, did-as, did-nothing, did-returned, did-nack, called-opened}

@@ -15,19 +15,20 @@ use Rattle.larq.specs.Channel.{Cell, waits, missing, waiting}
 use Rattle.larq.specs.Settling.{Walked, walk, wide}
 use Rattle.larq.specs.Answer.{accepted, holds}
 use Rattle.larq.specs.Events.{asked, filling, filled, settledAt, moved, taken}
-use Rattle.channel.specs.Place.{window, cellAt, recordWith, recordOf}
+use Rattle.record.specs.Place.{window, cellAt, recordWith, recordOf}
 use Rattle.channel.specs.Call.{Did, Says, parts, buffers}
-use Rattle.channel.specs.Slots.{earlier}
-use Rattle.channel.specs.Steps.{Sized, Ready, recordIn, spanIn, walkOf, Finished, nothing, answerOf, filledAt}
-use Rattle.channel.specs.Judge.{MissingAt, KnownAt}
+use Rattle.record.specs.Slots.{earlier}
+use Rattle.record.specs.Moving.{recordIn, spanIn}
+use Rattle.channel.specs.Steps.{Sized, Ready, walkOf, Finished, nothing, answerOf, filledAt}
+use Rattle.record.specs.Judge.{MissingAt, KnownAt}
 use Rattle.channel.specs.declared.Answer.{Answer}
 use Rattle.channel.specs.declared.act.Counts.{Counts}
-use Rattle.channel.specs.declared.record.Record.{Record}
-use Rattle.channel.proofs.Rounds.{slot-steps}
-use Rattle.channel.proofs.Windows.{length-window, window-at, window-same, window-set, cell-waits, cell-missing}
-use Rattle.channel.proofs.Laying.{wrote-front, wrote-none, wrote-one}
+use Rattle.record.specs.declared.Record.{Record}
+use Rattle.record.proofs.Rounds.{slot-steps}
+use Rattle.record.proofs.Windows.{length-window, window-at, window-same, window-set, cell-waits, cell-missing}
+use Rattle.record.proofs.Laying.{wrote-front, wrote-none, wrote-one}
 use Rattle.channel.proofs.Cells.{cell-brought, cell-beside}
-use Rattle.channel.proofs.Walks.{up-few, waiting-few, walk-narrow}
+use Rattle.record.proofs.Walks.{up-few, waiting-few, walk-narrow}
 use Rattle.channel.proofs.Filling.{filling-missing, filling-waiting, filling-past}
 
 module _ {r : Record} {W H K : List ℕ} (ready : Ready r W H K) (s x t : ℕ) where

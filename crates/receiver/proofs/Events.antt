@@ -19,7 +19,7 @@ use Rattle.larq.specs.Demands.{isClose}
 use Rattle.larq.proofs.Cases.{one-case}
 use Rattle.ring.specs.Ring.{steps}
 use Rattle.channel.specs.Call.{Parts, parts, Buffers, buffers, eventAt, ruleAt, Called, Says}
-use Rattle.channel.specs.Place.{recordOf}
+use Rattle.record.specs.Place.{recordOf}
 use Rattle.channel.specs.declared.Answer.{Answer}
 use Rattle.table.specs.First.{places, firstPlace, storesNone}
 use Rattle.table.specs.Key.{keyOf, firstWord}

@@ -12,7 +12,7 @@ use Rattle.larq.specs.Channel.{window}
 use Rattle.larq.specs.Answer.{Change, same, holds, freed, Outcome}
 use Rattle.larq.specs.Events.{Act}
 use Rattle.larq.specs.Table.{Key, free, held, Event, numberInRing, outcome, step}
-use Rattle.channel.specs.Place.{placeSized}
+use Rattle.record.specs.Place.{placeSized}
 use Rattle.channel.specs.Call.{Parts, parts, Buffers, Became, ruleAt, Called}
 use Rattle.channel.specs.declared.Answer.{Answer}
 use Rattle.table.specs.First.{places, firstPlace, stores}

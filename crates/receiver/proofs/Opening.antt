@@ -12,8 +12,8 @@ use Rattle.larq.specs.Channel.{window}
 use Rattle.larq.specs.Answer.{holds, accepted}
 use Rattle.larq.specs.Events.{frame, opened}
 use Rattle.larq.specs.Table.{Key, held, Event, outcome}
-use Rattle.channel.specs.Place.{spanOf, recordWith, recordOf}
-use Rattle.channel.specs.Place as place
+use Rattle.record.specs.Place.{spanOf, recordWith, recordOf}
+use Rattle.record.specs.Place as place
 use Rattle.channel.specs.Call.{buffers, Says}
 use Rattle.channel.specs.declared.Answer.{Answer}
 use Rattle.table.specs.First.{places, firstPlace, storesNone}

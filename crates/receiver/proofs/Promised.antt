@@ -11,7 +11,8 @@ use lib.Dec.{eqb}
 use Rattle.larq.specs.Channel.{window}
 use Rattle.larq.specs.Answer.{Change, same, holds, freed, refused}
 use Rattle.larq.specs.Table.{Place, Event, outcome, step}
-use Rattle.channel.specs.Call.{Buffers, Wrote, Says}
+use Rattle.record.specs.Slots.{Wrote}
+use Rattle.channel.specs.Call.{Buffers, Says}
 use Rattle.channel.specs.declared.Answer.{Answer}
 use Rattle.table.specs.First.{places}
 use Rattle.table.specs.Table.{Slices, part, atPlace, placeOf, placeAt, placesFrom, tableOf}

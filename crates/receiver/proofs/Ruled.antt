@@ -11,7 +11,7 @@ use Rattle.larq.specs.Channel.{Channel, window}
 use Rattle.larq.specs.Answer.{holds, freed, refused, accepted}
 use Rattle.larq.specs.Events.{Act, frame, opened}
 use Rattle.larq.specs.Table.{Key, free, held, Table, Event, channels, room, lentEnough, numberInRing, priorityFits, isData, refusals, done, one, outcome, step}
-use Rattle.channel.specs.Place.{recordOf, placeSized}
+use Rattle.record.specs.Place.{recordOf, placeSized}
 use Rattle.channel.specs.Call.{Parts, parts, Buffers, eventAt, ruleAt}
 use Rattle.table.specs.First.{places, firstPlace}
 use Rattle.table.specs.Table.{Slices, part, placeAt, placesFrom, tableOf}

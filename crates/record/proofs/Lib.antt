@@ -1,0 +1,13 @@
+pub mod Rounds
+pub mod Windows
+pub mod Ordering
+pub mod Sounds
+pub mod Refusing
+pub mod Spots
+pub mod Appending
+pub mod Laying
+pub mod Walks
+pub mod Waiting
+pub mod Stamping
+pub mod Settling
+pub mod Fitting

@@ -1,0 +1,4 @@
+pub mod Place
+pub mod Moving
+pub mod Judge
+pub mod Slots
