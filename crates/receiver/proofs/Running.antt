@@ -17,7 +17,7 @@ use Rattle.channel.specs.declared.Answer.{Answer}
 use Rattle.table.specs.Table.{Slices, tableOf}
 use Rattle.table.specs.Emptied.{allZeros}
 use Rattle.table.proofs.Zeroing.{emptied}
-use Rattle.receiver.specs.Calls.{heard, Calls, none, call}
+use Rattle.arrivals.specs.Calls.{heard, Calls, none, call}
 
 front : (list before after : List ℕ) (n : ℕ) → Wrote list before after n → take n after ≡ list
 front list before after n w = ap₂ take (w .count) (w .buffer) ∙ take-at list (drop (length list) before) (length list) refl

@@ -4,9 +4,9 @@ use native.Mathlib.Omega.{arith}
 use borrow.Author.Needs.{needs}
 use denote.Ref.{now}
 use Rattle.channel.specs.Call.{parts, buffers}
-use Rattle.receiver.proofs.Events.{Told, Goes, data-goes, data-kept-did, data-turned-did, ready, opening-did}
-use Rattle.receiver.proofs.data.Statement.{statement}
-use Rattle.receiver.proofs.data.Tie as tie
+use Rattle.arrivals.proofs.Events.{Told, Goes, data-goes, data-kept-did, data-turned-did, ready, opening-did}
+use Rattle.arrivals.proofs.data.Statement.{statement}
+use Rattle.arrivals.proofs.data.Tie as tie
 
 data-way-of-requires : tie.Need-data-way-of-requires
 data-way-of-requires c κs = search needs

@@ -3,8 +3,8 @@ use mathlib.Core.Path.{refl}
 use native.Mathlib.Omega.{arith}
 use borrow.Author.Needs.{needs}
 use lib.ListN.{length-set}
-use Rattle.receiver.proofs.writes.open_at.Statement.{statement}
-use Rattle.receiver.proofs.writes.open_at.Tie as tie
+use Rattle.arrivals.proofs.writes.open_at.Statement.{statement}
+use Rattle.arrivals.proofs.writes.open_at.Tie as tie
 
 forward-requires : tie.Need-forward-requires
 forward-requires c κs = search needs

@@ -10,7 +10,7 @@ use lib.ListN.{length, getD, set, length-set}
 use lib.Seq.{getD-set-same, getD-set-other}
 use Rattle.table.specs.First.{places, stores}
 use Rattle.table.specs.Table.{part}
-use Rattle.receiver.specs.Writes.{keyed}
+use Rattle.arrivals.specs.Writes.{keyed}
 use Rattle.table.proofs.Parts.{part-set-else, set-pair}
 
 module _ (keys : List ℕ) (i first second : ℕ) (l : length keys ≡ 128) (h : i < places) where

@@ -5,9 +5,9 @@ use borrow.Author.Needs.{needs}
 use denote.Ref.{now}
 use Rattle.larq.specs.Events.{reminder}
 use Rattle.channel.specs.Call.{parts, buffers}
-use Rattle.receiver.proofs.Events.{Told, Goes, goes, kept-did, turned-did}
-use Rattle.receiver.proofs.reminder.Statement.{statement}
-use Rattle.receiver.proofs.reminder.Tie as tie
+use Rattle.arrivals.proofs.Events.{Told, Goes, goes, kept-did, turned-did}
+use Rattle.arrivals.proofs.reminder.Statement.{statement}
+use Rattle.arrivals.proofs.reminder.Tie as tie
 
 way-of-requires : tie.Need-way-of-requires
 way-of-requires c κs = search needs

@@ -20,15 +20,15 @@ use Rattle.table.specs.Key.{firstWord}
 use Rattle.table.specs.Table.{Slices, slices, part, atPlace, placeOf, placeAt, tableOf, zeros}
 use Rattle.table.specs.Way.{placeFor}
 use Rattle.table.specs.Addressed.{isOf, addressed}
-use Rattle.receiver.specs.Event.{eventOf, Changed, Did}
+use Rattle.arrivals.specs.Event.{eventOf, Changed, Did}
 use Rattle.table.specs.declared.lookup.Found.the-variants.{At}
 use Rattle.table.proofs.Parts.{put, lent, lent-part, length-part, part-put, part-put-else, put-part}
 use Rattle.table.proofs.Places.{Finds, finds}
 use Rattle.table.proofs.Stored.{own-place, place-is, zeros-free}
 use Rattle.table.proofs.Ways.{Passed, Whole, whole-sizes, lent-whole}
-use Rattle.receiver.proofs.Ruled.{partsAt, recordAt, known-rule, holds-step, freed-step}
-use Rattle.receiver.proofs.Keyed.{keyed-part}
-use Rattle.receiver.proofs.Promised.{table-but, KeysAfter, keys-else}
+use Rattle.arrivals.proofs.Ruled.{partsAt, recordAt, known-rule, holds-step, freed-step}
+use Rattle.arrivals.proofs.Keyed.{keyed-part}
+use Rattle.arrivals.proofs.Promised.{table-but, KeysAfter, keys-else}
 
 module _ (keys W H M : List ℕ) (b : Buffers) (k : Key) (time : ℕ) (act : Act ℕ) (number : ℕ) (numbered : numberInRing act ≡ leb number 4095)
     (passed : Passed (eventOf k time act (slices keys W H M) b .lent) number (k .priority)) (i : ℕ) (found : placeFor keys k ≡ At i) where

@@ -16,10 +16,10 @@ use Rattle.channel.specs.Call.{Buffers, Says}
 use Rattle.channel.specs.declared.Answer.{Answer}
 use Rattle.table.specs.First.{places}
 use Rattle.table.specs.Table.{Slices, part, atPlace, placeOf, placeAt, placesFrom, tableOf}
-use Rattle.receiver.specs.Writes.{keyed}
-use Rattle.receiver.specs.Event.{Did}
+use Rattle.arrivals.specs.Writes.{keyed}
+use Rattle.arrivals.specs.Event.{Did}
 use Rattle.table.proofs.Places.{but, same-places}
-use Rattle.receiver.proofs.Keyed.{keyed-else}
+use Rattle.arrivals.proofs.Keyed.{keyed-else}
 
 pub wrote-none : (l : List ℕ) (n : ℕ) → n ≡ 0 → Wrote [] l l n
 wrote-none l n e = record { count = e; buffer = refl }

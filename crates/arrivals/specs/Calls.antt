@@ -7,7 +7,7 @@ use Rattle.larq.specs.Table.{Event}
 use Rattle.channel.specs.Call.{Buffers}
 use Rattle.channel.specs.declared.Answer.{Answer}
 use Rattle.table.specs.Table.{Slices}
-use Rattle.receiver.specs.Event.{Did}
+use Rattle.arrivals.specs.Event.{Did}
 
 -- what the host reads: the number, as many entries of each buffer as its count says, and the lost count
 abbrev pub heard : Buffers → Answer → rule.Answer ℕ

@@ -17,7 +17,7 @@ use Rattle.table.specs.First.{places, firstPlace}
 use Rattle.table.specs.Table.{Slices, part, placeAt, placesFrom, tableOf}
 use Rattle.table.specs.Way.{judged}
 use Rattle.table.specs.Addressed.{isOf, isFree}
-use Rattle.receiver.specs.Event.{eventOf}
+use Rattle.arrivals.specs.Event.{eventOf}
 use Rattle.table.specs.declared.lookup.Found.the-variants.{At, Nothing}
 use Rattle.table.proofs.Places.{but, Begins, channels-found, channels-none, putOpen-found, putFree-found, room-found, room-none}
 use Rattle.table.proofs.Ways.{Passed, both}

@@ -25,9 +25,9 @@ use Rattle.table.specs.First.{places, firstPlace, storesNone}
 use Rattle.table.specs.Key.{keyOf, firstWord}
 use Rattle.table.specs.Table.{Slices, slices, placeAt}
 use Rattle.table.specs.Way.{lentOf, judged, placeFor, wayBy, dataWayBy}
-use Rattle.receiver.specs.Writes.{keyed, Opens}
+use Rattle.arrivals.specs.Writes.{keyed, Opens}
 use Rattle.table.specs.Addressed.{isOf}
-use Rattle.receiver.specs.Event.{eventOf, Did, Call}
+use Rattle.arrivals.specs.Event.{eventOf, Did, Call}
 use Rattle.table.specs.declared.lookup.Found.the-variants.{At, Nothing}
 use Rattle.table.specs.declared.way.Way.{Way}
 use Rattle.table.specs.declared.way.DataWay.{DataWay}
@@ -35,10 +35,10 @@ use Rattle.table.proofs.Parts.{put, lent, lent-part}
 use Rattle.table.proofs.Places.{finds}
 use Rattle.table.proofs.Stored.{place-is, spare-is}
 use Rattle.table.proofs.Ways.{Passed, judged-passed, whole-sizes, lent-whole, lent-room, known-way, refused-way, unknown-way, data-way-known, data-way-free, data-way-refused}
-use Rattle.receiver.proofs.Ruled.{partsAt, early-refused, unknown-refused, full-refused}
-use Rattle.receiver.proofs.Promised.{KeysAfter, refused-did}
-use Rattle.receiver.proofs.Known.{within, known-did}
-use Rattle.receiver.proofs.Opening.{opened-did}
+use Rattle.arrivals.proofs.Ruled.{partsAt, early-refused, unknown-refused, full-refused}
+use Rattle.arrivals.proofs.Promised.{KeysAfter, refused-did}
+use Rattle.arrivals.proofs.Known.{within, known-did}
+use Rattle.arrivals.proofs.Opening.{opened-did}
 
 -- Only an accepted close frees a place, and it always does.
 module _ (i : ℕ) (keys : List ℕ) where

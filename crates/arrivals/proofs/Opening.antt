@@ -20,17 +20,17 @@ use Rattle.table.specs.First.{places, firstPlace, storesNone}
 use Rattle.table.specs.Key.{firstWord}
 use Rattle.table.specs.Table.{Slices, slices, part, atPlace, placeAt, tableOf}
 use Rattle.table.specs.Way.{placeFor}
-use Rattle.receiver.specs.Writes.{keyed, begun}
+use Rattle.arrivals.specs.Writes.{keyed, begun}
 use Rattle.table.specs.Addressed.{isOf, isFree, addressed}
-use Rattle.receiver.specs.Event.{eventOf, Did}
+use Rattle.arrivals.specs.Event.{eventOf, Did}
 use Rattle.table.specs.declared.lookup.Found.the-variants.{At, Nothing}
 use Rattle.table.proofs.Parts.{part-at, part-set-else}
-use Rattle.receiver.proofs.Keyed.{keyed-stores, keyed-else}
+use Rattle.arrivals.proofs.Keyed.{keyed-stores, keyed-else}
 use Rattle.table.proofs.Places.{finds}
 use Rattle.table.proofs.Stored.{own-place, place-is, spare-is}
 use Rattle.table.proofs.Ways.{Passed, Whole, whole-sizes, lent-whole, lent-room}
-use Rattle.receiver.proofs.Ruled.{opens, opens-step}
-use Rattle.receiver.proofs.Promised.{table-but, wrote-none}
+use Rattle.arrivals.proofs.Ruled.{opens, opens-step}
+use Rattle.arrivals.proofs.Promised.{table-but, wrote-none}
 
 no-span : (s : ℕ) → s ≤ 4095 → spanOf s (next s) ≡ 0
 no-span s h = omega arith
