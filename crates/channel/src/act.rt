@@ -17,7 +17,6 @@ use record::Record;
 use record::hand;
 use record::miss;
 use record::slot;
-use record::walk;
 use ring::Seq;
 use zeros::zero_u8;
 use zeros::zero_u32;
@@ -100,7 +99,7 @@ pub(crate) fn settle(
     ensures { λ k. ⌜ Finished r until (parts (now (words .entry)) (now (handles .entry)) (now (marks .entry))) had (now (up .entry)) (now (words .exit)) (now (up .exit)) k ⌝ }
 {
     let at = had.up;
-    let done = walk(r, words, handles, marks, up, at, until);
+    let done = r.settled(words, handles, marks, up, at, until);
     let kept = done.kept;
     stored(kept, words);
     Counts {

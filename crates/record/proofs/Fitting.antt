@@ -47,7 +47,7 @@ module _ (a b : ℕ) (x y : List ℕ) (n : ℕ) (out : List ℕ) where
   pub all-numbers : length x ≡ a → length y ≡ b → n ≤ length out → cond test n 0 ≡ n
   all-numbers e f l = rw (eq-eqb (length x) a e, eq-eqb (length y) b f, le-leb n (length out) l)
 
--- three lengths and a start, as `walk` tests them
+-- three lengths and a start, as `settled` tests them
 module _ (w h k : List ℕ) (n at : ℕ) (up : List ℕ) where
   abbrev whole : Bool
   whole = eqb (length w) 35 && (eqb (length h) 32 && eqb (length k) 32)

@@ -18,7 +18,6 @@ use ring::Seq;
 pub use window::Settled;
 pub use window::hand;
 pub use window::miss;
-pub use window::walk;
 
 pub struct Record {
     pub current: Seq,

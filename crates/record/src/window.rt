@@ -77,45 +77,47 @@ pub struct Settled {
     pub lost: usize,
 }
 
-// M moves on while it waits, and goes up, or is missing since before `until`, and is given up. What goes up is laid into `up` from `at` on.
-pub fn walk(
-    r: Record,
-    words: &[u64],
-    handles: &[u32],
-    marks: &[u8],
-    up: &mut [u32],
-    at: usize,
-    until: u64,
-) -> Settled
-    ensures { λ s. ⌜ Settles r (settleNumbers (now (words .entry)) (now (handles .entry)) (now (marks .entry)) (spanIn r) at (now (up .entry))) until
-        (now (words .entry)) (now (handles .entry)) (now (marks .entry)) at (now (up .entry)) (now (up .exit)) s ⌝ }
-{
-    let mut kept = r;
-    let mut left = all_or_none(
-        (words.len() == 35) & ((handles.len() == 32) & (marks.len() == 32)) & (at <= up.len()),
-        r.span(),
-    );
-    let mut gone: usize = 0;
-    let mut lost: usize = 0;
-    while 0 < left {
-        let j = slot(kept.oldest);
-        if marks[j] != 0 {
-            if gone < up.len() - at {
-                up[at + gone] = handles[j];
+impl Record {
+    // M moves on while it waits, and goes up, or is missing since before `until`, and is given up. What goes up is laid into `up` from `at` on.
+    pub fn settled(
+        self,
+        words: &[u64],
+        handles: &[u32],
+        marks: &[u8],
+        up: &mut [u32],
+        at: usize,
+        until: u64,
+    ) -> Settled
+        ensures { λ s. ⌜ Settles self (settleNumbers (now (words .entry)) (now (handles .entry)) (now (marks .entry)) (spanIn self) at (now (up .entry))) until
+            (now (words .entry)) (now (handles .entry)) (now (marks .entry)) at (now (up .entry)) (now (up .exit)) s ⌝ }
+    {
+        let mut kept = self;
+        let mut left = all_or_none(
+            (words.len() == 35) & ((handles.len() == 32) & (marks.len() == 32)) & (at <= up.len()),
+            self.span(),
+        );
+        let mut gone: usize = 0;
+        let mut lost: usize = 0;
+        while 0 < left {
+            let j = slot(kept.oldest);
+            if marks[j] != 0 {
+                if gone < up.len() - at {
+                    up[at + gone] = handles[j];
+                }
+                gone += 1;
+            } else {
+                if until <= words[3 + j] {
+                    break;
+                }
+                lost += 1;
             }
-            gone += 1;
-        } else {
-            if until <= words[3 + j] {
-                break;
-            }
-            lost += 1;
+            kept = kept.moved(1);
+            left -= 1;
         }
-        kept = kept.moved(1);
-        left -= 1;
-    }
-    Settled {
-        kept: kept,
-        up: gone,
-        lost: lost,
+        Settled {
+            kept: kept,
+            up: gone,
+            lost: lost,
+        }
     }
 }

@@ -1,4 +1,4 @@
--- `settle` meets its contract: `walk` moves M as the walk does, and the words that are laid down then mean the record that it leaves.
+-- `settle` meets its contract: `settled` moves M as the walk does, and the words that are laid down then mean the record that it leaves.
 use Prim.Native.Nat.{_+_}
 use mathlib.Core.Path.{refl, ap, _∙_}
 use native.Mathlib.Omega.{arith}
@@ -9,13 +9,13 @@ use Rattle.channel.proofs.act.settle.Statement.{statement}
 use Rattle.channel.proofs.act.settle.Tie as tie
 use Rattle.channel.proofs.act.settle.Reads as reads
 use Rattle.channel.proofs.act.settle.Lts as lts
-use Rattle.record.proofs.walk.Reads as walk-reads
+use Rattle.record.proofs.Record.settled.Reads as settled-reads
 use Rattle.channel.proofs.act.stored.Reads as stored-reads
 
-walk-requires : tie.Need-walk-requires
-walk-requires c κs = search needs
+settled-requires : tie.Need-settled-requires
+settled-requires c κs = search needs
 
-abbrev at-entry : tie.After-walk → tie.Start
+abbrev at-entry : tie.After-settled → tie.Start
 at-entry c = c .before .before .before .before .before .before .before
 
 stored-requires : tie.Need-stored-requires
@@ -25,14 +25,14 @@ add-t18 : tie.Need-add-t18
 add-t18 c =
     let w = c .before .before .before .before .before .before .before .before .before in
     let a = at-entry w in
-    omega (arith, walked (a .pre .0) (a .pre .1 .2) (w .walk .ensures) .up .end-is, a .pre .1 .2)
+    omega (arith, walked (a .pre .0) (a .pre .1 .2) (w .settled .ensures) .up .end-is, a .pre .1 .2)
 
 add-t19 : tie.Need-add-t19
 add-t19 c =
     let w = c .before .before .before .before .before .before .before .before .before .before .before in
     let a = at-entry w in
     omega
-    (arith, walked (a .pre .0) (a .pre .1 .2) (w .walk .ensures) .lost, a .pre .1, lost-few (a .args .r) (a .args .until) (a .args .words .now) (a .args .handles .now) (a .args .marks .now) (a .pre .1 .0))
+    (arith, walked (a .pre .0) (a .pre .1 .2) (w .settled .ensures) .lost, a .pre .1, lost-few (a .args .r) (a .args .until) (a .args .words .now) (a .args .handles .now) (a .args .marks .now) (a .pre .1 .0))
 
 same-length : tie.Need-same-length
 same-length c = search needs
@@ -44,7 +44,7 @@ returns : tie.Need-returns
 returns c =
     let w = c .before .before .before .before .before .before .before .before .before .before .before in
     let a = at-entry w in
-    let done = walked (a .pre .0) (a .pre .1 .2) (w .walk .ensures) in
+    let done = walked (a .pre .0) (a .pre .1 .2) (w .settled .ensures) in
     record {
       up = done .up;
       nack = refl;
@@ -52,9 +52,9 @@ returns c =
       became =
           ap (λ w. recordOf w (a .args .handles .now) (a .args .marks .now)) (c .before .before .before .before .before .before .stored .ensures)
           ∙ settled-record (a .args .r) (a .args .until) (a .args .words .now) (a .args .handles .now) (a .args .marks .now) (a .args .had .up)
-          (a .args .up .now) _ (w .walk .result) (omega (arith, a .pre .0)) (a .pre .1 .0) done;
+          (a .args .up .now) _ (w .settled .result) (omega (arith, a .pre .0)) (a .pre .1 .0) done;
     }
 
 pub settle-spec : {M : Type 1} → statement M
 settle-spec =
-    tie.close (tie.spec walk-requires stored-requires add-t18 add-t19 same-length same-length-2 returns)
+    tie.close (tie.spec settled-requires stored-requires add-t18 add-t19 same-length same-length-2 returns)

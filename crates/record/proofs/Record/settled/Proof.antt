@@ -1,13 +1,13 @@
--- `walk` meets its contract. The loop keeps: what M's walk makes of the rest is what it made of the whole (Settling, `Settles-on`).
+-- `Record::settled` meets its contract. The loop keeps: what M's walk makes of the rest is what it made of the whole (Settling, `Settles-on`).
 use mathlib.Core.Path.{_≡_, refl, ap, sym, _∙_}
 use mathlib.Core.Logic.{⊎-elim}
 use native.Mathlib.Omega.{arith}
 use Rattle.record.proofs.Settling.{Settles-on, settles-start, settles, rests-none, rests-missing, passes-waits, passes-unwritten, passes-missing}
 use borrow.Author.Needs.{needs}
-use Rattle.record.proofs.window.walk.Statement.{statement}
-use Rattle.record.proofs.window.walk.Tie as tie
-use Rattle.record.proofs.window.walk.Reads as reads
-use Rattle.record.proofs.window.walk.Lts as lts
+use Rattle.record.proofs.Record.settled.Statement.{statement}
+use Rattle.record.proofs.Record.settled.Tie as tie
+use Rattle.record.proofs.Record.settled.Reads as reads
+use Rattle.record.proofs.Record.settled.Lts as lts
 use Rattle.record.proofs.Record.moved.Reads as moved-reads
 use Rattle.record.proofs.Record.span.Reads as span-reads
 use Rattle.record.proofs.slot.Reads as slot-reads
@@ -103,7 +103,7 @@ same-length c = search needs
 returns : tie.Need-returns Inv-loop μ-loop
 returns c =
     let l = c .before .loop in
-    settles (c .before .before .before .before .before .before .before .before .args .r) _ (rw (c .before .before .before .span .ensures) at (c .before .before .all-or-none .ensures))
+    settles (c .before .before .before .before .before .before .before .before .args .self) _ (rw (c .before .before .before .span .ensures) at (c .before .before .all-or-none .ensures))
     (rests-none (l .inv .0) (omega arith)) (l .inv .1) (l .inv .2)
 
 same-length-2 : tie.Need-same-length-2 Inv-loop μ-loop
@@ -112,13 +112,13 @@ same-length-2 c = search needs
 returns-2 : tie.Need-returns-2 Inv-loop μ-loop
 returns-2 c =
     let l = c .before .before .before .before .before .before .loop in
-    settles (c .before .before .before .before .before .before .before .before .before .before .before .before .before .args .r) _
+    settles (c .before .before .before .before .before .before .before .before .before .before .before .before .before .args .self) _
     (rw (c .before .before .before .before .before .before .before .before .span .ensures) at (c .before .before .before .before .before .before .before .all-or-none .ensures))
     (rests-missing (l .inv .0) (omega arith) (c .before .before .before .before .slot .ensures) (c .before .before .if1 .left) (c .if3 .taken))
     (l .inv .1) (l .inv .2)
 
-pub walk-spec : {M : Type 1} → statement M
-walk-spec =
+pub settled-spec : {M : Type 1} → statement M
+settled-spec =
     tie.close
     (tie.spec
     Inv-loop
