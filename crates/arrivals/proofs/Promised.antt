@@ -11,7 +11,7 @@ use lib.Dec.{eqb}
 use Rattle.larq.specs.Channel.{window}
 use Rattle.larq.specs.Answer.{Change, same, holds, freed, refused}
 use Rattle.larq.specs.Table.{Place, Event, outcome, step}
-use Rattle.record.specs.Slots.{Wrote}
+use Rattle.record.specs.Buffers.{Wrote}
 use Rattle.channel.specs.Call.{Buffers, Says}
 use Rattle.channel.specs.declared.Answer.{Answer}
 use Rattle.table.specs.First.{places}

@@ -17,7 +17,7 @@ use Rattle.larq.specs.Answer.{Change, Outcome, refused, accepted, holds}
 use Rattle.larq.specs.Events.{Act, act-on, sideOf}
 use Rattle.larq.specs.Table.{one, lentEnough, numberInRing, notBefore, reminderNear}
 use Rattle.record.specs.Place.{window, cellAt, spanOf, recordWith, recordOf}
-use Rattle.record.specs.Slots.{Wrote}
+use Rattle.record.specs.Buffers.{Wrote}
 use Rattle.channel.specs.Call.{Buffers, Parts, parts, buffers, Answered, Became, Says, Did, Called, ruleAt}
 use Rattle.channel.specs.Steps.{lentAt}
 use Rattle.channel.specs.declared.Answer.{Answer}

@@ -1,3 +1,5 @@
+pub mod Waiting
+pub mod Stamping
 pub mod Asking
 pub mod Cells
 pub mod Places

@@ -7,7 +7,7 @@ use mathlib.Core.List.{List}
 use Rattle.larq.specs.Answer.{Change, same, holds, freed, Outcome}
 use Rattle.larq.specs.Events.{Act}
 use Rattle.record.specs.Place.{recordOf}
-use Rattle.record.specs.Slots.{Wrote}
+use Rattle.record.specs.Buffers.{Wrote}
 use Rattle.channel.specs.Call.{Buffers, Parts, Answered, Became, Called, ruleAt}
 use Rattle.channel.specs.declared.Answer.{Answer}
 

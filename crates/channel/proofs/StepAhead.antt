@@ -14,19 +14,21 @@ use Rattle.larq.specs.Answer.{accepted, holds}
 use Rattle.larq.specs.Events.{ahead, settledAt, moved}
 use Rattle.record.specs.Place.{window, cellAt, recordWith}
 use Rattle.channel.specs.Call.{Did, parts, buffers}
-use Rattle.record.specs.Slots.{Laid, Missed, stamped, waitingOf, earlier, handNumbers, missNumbers}
+use Rattle.record.specs.Buffers.{Laid}
+use Rattle.record.specs.Walk.{earlier}
+use Rattle.channel.specs.Slots.{Missed, stamped, waitingOf}
+use Rattle.channel.specs.Steps.{Sized, Ready, walkOf, passedOf, Finished, answerOf, cellsOf, handlesWith, marksWith, IsAhead}
 use Rattle.record.specs.Moving.{recordIn, spanIn, IsGrown}
-use Rattle.channel.specs.Steps.{Sized, Ready, walkOf, Finished, answerOf, cellsOf, handlesWith, marksWith, IsAhead}
 use Rattle.channel.specs.declared.Answer.{Answer}
 use Rattle.record.specs.declared.Record.{Record}
 use Rattle.record.specs.declared.Grown.{Grown}
 use Rattle.channel.specs.declared.act.Counts.{Counts}
 use Rattle.channel.specs.declared.act.Last.{Last}
 use Rattle.channel.specs.declared.act.Last.the-variants.{Waits, Missing}
+use Rattle.record.proofs.Walks.{never-lost}
 use Rattle.record.proofs.Laying.{laid-length, laid-laid, wrote-front, wrote-none}
-use Rattle.record.proofs.Waiting.{waiting-short, laid-all}
-use Rattle.record.proofs.Stamping.{length-stamped, missed-all}
-use Rattle.record.proofs.Fitting.{all-numbers}
+use Rattle.channel.proofs.Waiting.{waiting-short}
+use Rattle.channel.proofs.Stamping.{length-stamped}
 use Rattle.channel.proofs.Growing.{Grows, new-cell, walk-again, past-few, span-again, walk-grown, up-room, asked-grown}
 
 length-handles : (last : Last) (s : ℕ) (l : List ℕ) → length (handlesWith last s l) ≡ length l
@@ -89,27 +91,16 @@ module _ {r : Record} {W H K : List ℕ} {s k t : ℕ} {last : Last} {to : Grown
   pub handed-room : to .old ≤ 32
   handed-room = omega (arith, is .old, ready .narrow)
 
+  pub handed-few : length handed ≤ to .over
+  handed-few = omega (arith, is .old, waiting-short H K m (to .old))
+
   pub count-room : to .count ≤ 32
   count-room = omega (arith, is .count, is .over, is-ahead .near, is-ahead .all, past-few grows)
 
-  module _ {U u₁ : List ℕ} {end : ℕ} (room-up : 32 ≤ length U) (hands : Laid (waitingOf H K m (handNumbers H K (to .old) U)) 0 U u₁ end) where
-    pub handing : Laid handed 0 U u₁ end
-    handing = laid-all H K m (to .old) (ready .sized .handles) (ready .sized .marks) (omega (arith, handed-room)) hands
-
-    pub handed-few : end ≤ to .over
-    handed-few = omega (arith, is .old, handing .end-is, waiting-short H K m (to .old))
-
   -- The calls, one after the other: those that M passes at once go up, numbers become missing, the last comes, and M settles.
-  module _ {U u₁ N w₁ k₁ q₁ h₂ k₂ : List ℕ} {end : ℕ} (room-up : 32 ≤ length U) (room-nack : 32 ≤ length N)
-      (hands : Laid (waitingOf H K m (handNumbers H K (to .old) U)) 0 U u₁ end)
-      (misses : Missed (to .first .0) (missNumbers W K (to .count) N) t W K N w₁ k₁ q₁) (handles-are : h₂ ≡ handlesWith last s H)
+  module _ {U u₁ N w₁ k₁ q₁ h₂ k₂ : List ℕ} {end : ℕ} (room-up : 32 ≤ length U) (room-nack : 32 ≤ length N) (handing : Laid handed 0 U u₁ end)
+      (missed : Missed (to .first .0) (to .count) t W K N w₁ k₁ q₁) (handles-are : h₂ ≡ handlesWith last s H)
       (marks-are : k₂ ≡ marksWith last s k₁) where
-    count-fits : to .count ≤ length N
-    count-fits = omega (arith, room-nack, count-room)
-
-    missed : Missed (to .first .0) (to .count) t W K N w₁ k₁ q₁
-    missed = missed-all (ready .sized .words) (ready .sized .marks) count-fits misses
-
     marks-all : k₂ ≡ marksWith last s (stamped 0 K (to .first .0) (to .count) 0)
     marks-all = marks-are ∙ ap (marksWith last s) (missed .marks)
 
@@ -136,18 +127,18 @@ module _ {r : Record} {W H K : List ℕ} {s k t : ℕ} {last : Last} {to : Grown
               ∙ ready .sized .marks;
         }
 
-    pub settle-room : (to .kept .oldest .0 < 4096) × (to .over - end ≤ 4096) × (end + length (walkOf (to .kept) 0 w₁ h₂ k₂ .up) ≤ length u₁)
+    pub settle-room : (to .kept .oldest .0 < 4096) × (to .over - end ≤ 4096) × (end + passedOf (to .kept) 0 w₁ h₂ k₂ ≤ length u₁)
     settle-room = (
       rw (is .oldest) (forward-small m (to .over)),
       omega (arith, is .over, ready .narrow, is-ahead .near),
-      omega (arith, handing room-up hands .end-is, up-to, up-few, laid-length hands),
+      omega (arith, handing .end-is, up-to, up-few, laid-length handing, never-lost (to .kept .oldest .0) (window (cellAt w₁ h₂ k₂) (to .kept .oldest .0) (spanIn (to .kept)))),
     )
 
-    pub ahead-did : {w₂ u₂ : List ℕ} {had has : Counts} → had .up ≡ end → had .nack ≡ missNumbers W K (to .count) N → had .lost ≡ to .over - end
+    pub ahead-did : {w₂ u₂ : List ℕ} {had has : Counts} → had .up ≡ end → had .nack ≡ to .count → had .lost ≡ to .over - end
         → Finished (to .kept) 0 (parts w₁ h₂ k₂) had u₁ w₂ u₂ has
         → Did (ahead channel.window (recordIn r W H K) t s k (cellsOf last)) (parts W H K) (parts w₂ h₂ k₂) (buffers U [] N) (buffers u₂ [] q₁) (answerOf has)
     ahead-did {u₂ = u₂} {has = has} eu en el f =
-        let all : Laid (handed ++ again .up) 0 U u₂ (has .up) = laid-laid (handing room-up hands) (rw (walk-to, eu) at (f .up)) in
+        let all : Laid (handed ++ again .up) 0 U u₂ (has .up) = laid-laid handing (rw (walk-to, eu) at (f .up)) in
         rw rule-ahead
         (record {
           answered = record {
@@ -155,9 +146,9 @@ module _ {r : Record} {W H K : List ℕ} {s k t : ℕ} {last : Last} {to : Grown
             up = wrote-front all (omega (arith, length-append handed (again .up), up-few));
             returned = wrote-none [];
             nack =
-                wrote-front (record { end-is = f .nack ∙ en ∙ all-numbers 35 32 W K (to .count) N (ready .sized .words) (ready .sized .marks) count-fits ∙ sym (zero-add _ ∙ length-rising (to .first .0) (to .count)); buffer = missed .nack })
+                wrote-front (record { end-is = f .nack ∙ en ∙ sym (zero-add _ ∙ length-rising (to .first .0) (to .count)); buffer = missed .nack })
                 (rw (length-rising (to .first .0) (to .count)) (omega (arith, room-nack, count-room)));
-            lost = f .lost ∙ ap₂ (λ x y. x + y) (el ∙ ap (λ x. to .over - x) (handing room-up hands .end-is ∙ zero-add _)) (ap (λ p. p .lost) walk-to);
+            lost = f .lost ∙ ap₂ (λ x y. x + y) (el ∙ ap (λ x. to .over - x) (handing .end-is ∙ zero-add _)) (ap (λ p. p .lost) walk-to);
           };
           became =
               f .became

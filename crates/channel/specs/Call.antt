@@ -9,7 +9,7 @@ use Rattle.larq.specs.Answer.{Change, same, holds, freed, Outcome}
 use Rattle.larq.specs.Events.{Act}
 use Rattle.larq.specs.Table.{Key, Lent, Event, one}
 use Rattle.record.specs.Place.{recordOf, placeSized}
-use Rattle.record.specs.Slots.{Wrote}
+use Rattle.record.specs.Buffers.{Wrote}
 use Rattle.channel.specs.declared.Answer.{Answer}
 
 -- the three answer buffers

@@ -9,13 +9,13 @@ ghost use Rattle.larq.specs.Events.{ahead, restarted, close-on};
 ghost use Rattle.larq.specs.Settling.{hold};
 ghost use Rattle.channel.specs.Call.{Did, Says, parts, buffers};
 ghost use Rattle.record.specs.Moving.{recordIn};
-ghost use Rattle.channel.specs.Steps.{Sized, Ready, walkOf, Finished, answerOf, cellsOf, handlesWith, marksWith, IsAhead, filledAt, headed};
+ghost use Rattle.channel.specs.Steps.{Sized, Ready, passedOf, Finished, answerOf, cellsOf, handlesWith, marksWith, IsAhead, filledAt, headed};
 ghost use Rattle.record.specs.Judge.{MissingAt};
 use crate::Answer;
+use crate::window::hand;
+use crate::window::miss;
 use larq::HOLD;
 use record::Record;
-use record::hand;
-use record::miss;
 use record::slot;
 use ring::Seq;
 use zeros::zero_u8;
@@ -95,7 +95,7 @@ pub(crate) fn settle(
     until: u64,
 ) -> Counts
     requires { ⌜ Sized (now words) (now handles) (now marks) ⌝ }
-    requires { ⌜ (r .oldest .0 < 4096) × (had .lost ≤ 4096) × (had .up + length (walkOf r until (now words) (now handles) (now marks) .up) ≤ length (now up)) ⌝ }
+    requires { ⌜ (r .oldest .0 < 4096) × (had .lost ≤ 4096) × (had .up + passedOf r until (now words) (now handles) (now marks) ≤ length (now up)) ⌝ }
     ensures { λ k. ⌜ Finished r until (parts (now (words .entry)) (now (handles .entry)) (now (marks .entry))) had (now (up .entry)) (now (words .exit)) (now (up .exit)) k ⌝ }
 {
     let at = had.up;
@@ -132,7 +132,7 @@ pub(crate) fn ahead(
         (buffers (now (up .exit)) [] (now (nack .exit))) (answerOf k) ⌝ }
 {
     let g = r.grown(s, made, time);
-    let passed = hand(handles, marks, r.oldest, g.old, up);
+    let passed = hand(handles, marks, r.oldest, g.old, up, 0);
     let asked = miss(words, marks, nack, g.first, g.count, time);
     bring(handles, marks, s, last);
     let kept = g.kept;
@@ -220,7 +220,7 @@ pub(crate) fn restarted(
         (buffers (now (up .entry)) (now (returned .entry)) [])
         (buffers (now (up .exit)) (now (returned .exit)) []) a ⌝ }
 {
-    let back = hand(handles, marks, r.oldest, r.span(), returned);
+    let back = hand(handles, marks, r.oldest, r.span(), returned, 0);
     let mut answer = handed_up(words, up, s, handle, time);
     answer.returned = back;
     answer
@@ -263,7 +263,7 @@ pub(crate) fn closed(
         (buffers [] (now (returned .entry)) [])
         (buffers [] (now (returned .exit)) []) a ⌝ }
 {
-    let count = hand(handles, marks, r.oldest, r.span(), returned);
+    let count = hand(handles, marks, r.oldest, r.span(), returned, 0);
     zero_u64(words);
     zero_u32(handles);
     zero_u8(marks);

@@ -8,6 +8,7 @@ ghost use Rattle.record.specs.Moving.{recordIn};
 ghost use Rattle.channel.specs.Steps.{Ready, dataAt, reminderAt};
 
 mod act;
+mod window;
 
 use crate::act::Counts;
 use crate::act::Last;

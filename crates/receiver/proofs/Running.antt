@@ -11,7 +11,7 @@ use Rattle.larq.specs.Channel.{window}
 use Rattle.larq.specs.Table.{Table, Event, outcome}
 use Rattle.larq.specs.Run.{empty, run, answers}
 use Rattle.larq.proofs.Sound.{Tidy, sound-from-empty}
-use Rattle.record.specs.Slots.{Wrote}
+use Rattle.record.specs.Buffers.{Wrote}
 use Rattle.channel.specs.Call.{Buffers, Answered}
 use Rattle.channel.specs.declared.Answer.{Answer}
 use Rattle.table.specs.Table.{Slices, tableOf}

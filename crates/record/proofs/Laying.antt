@@ -8,7 +8,7 @@ use native.Mathlib.Nat.{zero-add, add-zero}
 use native.Mathlib.Numerals.{add-one}
 use lib.ListN.{length, set, drop, length-append}
 use lib.Seq.{sets, sets-eq, length-sets}
-use Rattle.record.specs.Slots.{Wrote, Laid}
+use Rattle.record.specs.Buffers.{Wrote, Laid}
 
 -- one entry more: a turn's store
 pub sets-more : (l : List ℕ) (at v : ℕ) (x : List ℕ) → sets (set l at v) (at + 1) x ≡ sets l at (v ∷ x)

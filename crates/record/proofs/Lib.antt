@@ -7,7 +7,4 @@ pub mod Spots
 pub mod Appending
 pub mod Laying
 pub mod Walks
-pub mod Waiting
-pub mod Stamping
 pub mod Settling
-pub mod Fitting

@@ -2,29 +2,58 @@
 -- Assumes nothing.
 use Prim.Native.Nat.{ℕ, suc, _+_, _-_, _%_, _≤_, _<_}
 use mathlib.Core.Path.{_≡_, refl, ap, sym, _∙_}
+use mathlib.Core.Bool.{Bool, true, false, cond, _&&_}
 use mathlib.Core.List.{List, [], _∷_}
 use native.Mathlib.Omega.{arith}
 use native.Mathlib.Nat.{add-zero}
 use lib.ListN.{length, getD, set, length-set}
 use lib.Seq.{sets}
-use borrow.Author.Tests.{lt-ltb, le-ltb}
+use lib.Dec.{eqb}
+use borrow.Author.Tests.{lt-ltb, le-ltb, eq-eqb, eqb-true}
 use Rattle.ring.specs.Ring.{next}
 use Rattle.larq.specs.Channel.{Cell, missing}
 use Rattle.larq.specs.Settling.{Walked, walk, stays, handing, losing}
 use Rattle.record.specs.Place.{window, cellAt}
-use Rattle.record.specs.Slots.{earlier, Laid, walkFrom, Settles, settleNumbers}
+use Rattle.record.specs.Walk.{earlier, walkFrom, Settles, most, settleNumbers}
+use Rattle.record.specs.Buffers.{Laid}
 use Rattle.record.specs.declared.Record.{Record}
 use Rattle.record.specs.declared.window.Settled.{Settled}
 use Rattle.record.proofs.Windows.{window-none, window-suc, cell-waits, cell-missing}
-use Rattle.record.proofs.Laying.{sets-more, set-beyond}
-use Rattle.record.proofs.Fitting.{Lies, some-lies, all-settle}
+use Rattle.record.proofs.Laying.{sets-more}
+use Rattle.record.proofs.Sounds.{and-left, and-right}
+use Rattle.record.proofs.Walks.{passes, walk-first}
+
+-- Over how many numbers M walks, by what the code finds.
+pub record Fits (w h k : List ℕ) (at left : ℕ) (up : List ℕ) : Type 0 where
+  pub words : length w ≡ 35
+  pub handles : length h ≡ 32
+  pub marks : length k ≡ 32
+  pub room : left ≤ length up - at
+
+module _ (w h k : List ℕ) (n at : ℕ) (up : List ℕ) where
+  abbrev whole : Bool
+  whole = eqb (length w) 35 && (eqb (length h) 32 && eqb (length k) 32)
+
+  fits-by : (b : Bool) → whole ≡ b → 0 < cond b (most n (length up - at)) 0 → Fits w h k at (cond b (most n (length up - at)) 0) up
+  fits-by true e p =
+      let rest = and-right (eqb (length w) 35) _ e in
+      record {
+        words = eqb-true _ _ (and-left (eqb (length w) 35) _ e);
+        handles = eqb-true _ _ (and-left (eqb (length h) 32) _ rest);
+        marks = eqb-true _ _ (and-right (eqb (length h) 32) _ rest);
+        room = omega arith;
+      }
+  fits-by false e p = absurd (let z : ⊥ = omega arith in z)
+
+  numbers-fit : 0 < settleNumbers w h k n at up → Fits w h k at (settleNumbers w h k n at up) up
+  numbers-fit = fits-by whole refl
 
 -- What the loop keeps: `gone` handles went up and `lost` numbers were given up so far.
 pub record Settles-on (until : ℕ) (w h k : List ℕ) (m n at : ℕ) (before up : List ℕ) (i left gone lost : ℕ) : Type 0 where
   pub words-sized : 0 < left → length w ≡ 35
   pub handles-sized : 0 < left → length h ≡ 32
   pub marks-sized : 0 < left → length k ≡ 32
-  pub start : 0 < left → at ≤ length up
+  pub room : 0 < left → at + gone + left ≤ length up
   pub sized : length up ≡ length before
   pub few : gone + lost + left ≤ n
   pub end : at + gone + length (walkFrom until w h k i left .up) ≡ at + length (walkFrom until w h k m n .up)
@@ -36,12 +65,12 @@ pub record Settles-on (until : ℕ) (w h k : List ℕ) (m n at : ℕ) (before up
 pub settles-start : (until : ℕ) (w h k : List ℕ) (m n left at : ℕ) (up : List ℕ) → left ≡ settleNumbers w h k n at up
     → Settles-on until w h k m left at up up m left 0 0
 settles-start until w h k m n left at up e =
-    let whole : 0 < left → Lies w h k n at up = λ p. some-lies w h k n at up (rw e at p) in
+    let fits : 0 < left → Fits w h k at left up = λ p. rw (← e) at (numbers-fit w h k n at up (rw e at p)) in
     record {
-      words-sized = λ p. whole p .words;
-      handles-sized = λ p. whole p .handles;
-      marks-sized = λ p. whole p .marks;
-      start = λ p. whole p .start;
+      words-sized = λ p. fits p .words;
+      handles-sized = λ p. fits p .handles;
+      marks-sized = λ p. fits p .marks;
+      room = λ p. omega (arith, fits p .room);
       sized = refl;
       few = omega arith;
       end = omega arith;
@@ -64,11 +93,20 @@ settles r s e rest c t =
     let z = rw e at rest in
     record { up = z .up-laid; lost = z .lost-all; oldest = z .oldest; current = c; latest = t }
 
--- the parts are those of a place: M walks over all n numbers
+-- the parts are those of a place, and there is room for all that M passes: it walks as over all n numbers
 pub settles-all : {r : Record} {n until : ℕ} {w h k : List ℕ} {at : ℕ} {before after : List ℕ} {s : Settled} → length w ≡ 35 → length h ≡ 32
-    → length k ≡ 32 → at ≤ length before → Settles r (settleNumbers w h k n at before) until w h k at before after s
-    → Settles r n until w h k at before after s
-settles-all {n = n} {w = w} {h = h} {k = k} {at = at} {before = before} a b c l x = rw (all-settle w h k n at before a b c l) at x
+    → length k ≡ 32 → at + passes (walkFrom until w h k (r .oldest .0) n) ≤ length before
+    → Settles r (settleNumbers w h k n at before) until w h k at before after s → Settles r n until w h k at before after s
+settles-all {r} {n} {until} {w} {h} {k} {at} {before} a b c l x =
+    let e = walk-first until (cellAt w h k) (r .oldest .0) n (length before - at) (omega arith) in
+    let y = rw (eq-eqb (length w) 35 a, eq-eqb (length h) 32 b, eq-eqb (length k) 32 c) at x in
+    record {
+      up = rw (e .0) at (y .up);
+      lost = y .lost ∙ e .1;
+      oldest = y .oldest ∙ e .2;
+      current = y .current;
+      latest = y .latest;
+    }
 
 module _ {until : ℕ} {w h k : List ℕ} {m n at : ℕ} {before up : List ℕ} {i left gone lost : ℕ}
     (keeps : Settles-on until w h k m n at before up i left gone lost) where
@@ -110,7 +148,7 @@ module _ {until : ℕ} {w h k : List ℕ} {m n at : ℕ} {before up : List ℕ} 
             words-sized = λ _. keeps .words-sized some;
             handles-sized = λ _. keeps .handles-sized some;
             marks-sized = λ _. keeps .marks-sized some;
-            start = λ _. simp length-set (keeps .start some);
+            room = λ _. simp length-set (omega (arith, keeps .room some));
             sized = length-set up (at + gone) (getD h j 0) ∙ keeps .sized;
             few = omega (arith, keeps .few);
             end = omega (arith, longer, keeps .end);
@@ -122,12 +160,6 @@ module _ {until : ℕ} {w h k : List ℕ} {m n at : ℕ} {before up : List ℕ} 
             lost-all = omega (arith, ap (λ v. v .lost) e, keeps .lost-all);
             oldest = sym (ap (λ v. v .oldest) e) ∙ keeps .oldest;
           })
-
-      -- there is no room: the store would be past the end
-      pub passes-unwritten : (getD k j 0 ≡ 0 → ⊥) → length up - at ≤ gone
-          → Settles-on until w h k m n at before up i′ (left - 1) (gone + 1) lost
-      passes-unwritten o full =
-          rw (set-beyond up (at + gone) (getD h j 0) (omega (arith, keeps .start some))) at (passes-waits o)
 
       pub passes-missing : getD k j 0 ≡ 0 → getD w (3 + j) 0 < until
           → Settles-on until w h k m n at before up i′ (left - 1) gone (lost + 1)
@@ -141,7 +173,7 @@ module _ {until : ℕ} {w h k : List ℕ} {m n at : ℕ} {before up : List ℕ} 
             words-sized = λ _. keeps .words-sized some;
             handles-sized = λ _. keeps .handles-sized some;
             marks-sized = λ _. keeps .marks-sized some;
-            start = λ _. keeps .start some;
+            room = λ _. omega (arith, keeps .room some);
             sized = keeps .sized;
             few = omega (arith, keeps .few);
             end = omega (arith, longer, keeps .end);

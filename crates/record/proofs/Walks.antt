@@ -1,6 +1,6 @@
 -- Laws of M's walk over a window: how many numbers it passes and what is left, that it hands up only what waits, and how settling a window
 -- that is too wide comes apart: M first passes what is too much, and then those that wait. Document 01, 'Settling'. Assumes nothing.
-use Prim.Native.Nat.{ℕ, zero, suc, _+_, _-_, _≤_, _<_}
+use Prim.Native.Nat.{ℕ, zero, suc, _+_, _-_, _%_, _≤_, _<_}
 use mathlib.Core.Path.{_≡_, refl, ap, sym, _∙_}
 use mathlib.Core.Bool.{Bool, true, false, cond}
 use mathlib.Core.List.{List, [], _∷_, _++_}
@@ -11,7 +11,8 @@ use borrow.Author.Tests.{lt-ltb, le-ltb, le-leb, lt-leb, leb-true, leb-false}
 use Rattle.ring.specs.Ring.{size, forward, next}
 use Rattle.larq.specs.Channel.{Cell, waits, missing, waiting, headMissing}
 use Rattle.larq.specs.Settling.{Walked, walk, stays, handing, losing, wide, hold, stale}
-use Rattle.record.specs.Slots.{earlier}
+use Rattle.record.specs.Place.{window}
+use Rattle.record.specs.Walk.{earlier, most}
 use Rattle.record.proofs.Rounds.{forward-none, forward-next}
 
 -- what went up and was given up before a walk
@@ -144,3 +145,52 @@ module _ {H : Type 0} where
       let b = walk (wide w) (forward (next m) j) (drop j cs) .lost in
       let e : suc j - n + b ≡ suc (j - n + b) = omega arith in
       rw (lt-ltb w (suc (length cs)) (omega arith), ← forward-next m j, e) (ap losing (walk-wide w j (next m) cs (omega arith) (omega arith)))
+
+  -- up to time 0 nothing is given up
+  pub never-lost : (m : ℕ) (cs : List (Cell H)) → walk (earlier 0) m cs .lost ≡ 0
+  never-lost m [] = refl
+  never-lost m (waits h ∷ cs) = never-lost (next m) cs
+  never-lost m (missing t ∷ cs) = rw (le-ltb t 0 (omega arith)) refl
+
+-- M comes as far on the first numbers of a window as on the whole, where it passes no more of them.
+abbrev Alike : Walked ℕ → Walked ℕ → Type 0
+Alike p q = (p .up ≡ q .up) × (p .lost ≡ q .lost) × (p .oldest ≡ q .oldest)
+
+module _ (until : ℕ) where
+  abbrev on : ℕ → List (Cell ℕ) → Walked ℕ
+  on = walk (earlier until)
+
+  none-passed : (m : ℕ) (x : Cell ℕ) (ys : List (Cell ℕ)) → passes (on m (x ∷ ys)) ≤ 0 → Alike (on m []) (on m (x ∷ ys))
+  none-passed m (waits h) ys l = absurd (let z : ⊥ = omega arith in z)
+  none-passed m (missing t) ys l = by-time (ltb t until) l
+    where
+      by-time : (b : Bool) → passes (cond b (losing (on (next m) ys)) (stays m (missing t ∷ ys))) ≤ 0
+          → Alike (on m []) (cond b (losing (on (next m) ys)) (stays m (missing t ∷ ys)))
+      by-time true l = absurd (let z : ⊥ = omega arith in z)
+      by-time false l = (refl, refl, refl)
+
+  one-passed : (m : ℕ) (x : Cell ℕ) (ys zs : List (Cell ℕ)) (j : ℕ) → (passes (on (next m) ys) ≤ j → Alike (on (next m) zs) (on (next m) ys))
+      → passes (on m (x ∷ ys)) ≤ suc j → Alike (on m (x ∷ zs)) (on m (x ∷ ys))
+  one-passed m (waits h) ys zs j rest l = let e = rest (omega arith) in (ap (λ us. h ∷ us) (e .0), e .1, e .2)
+  one-passed m (missing t) ys zs j rest l = by-time (ltb t until) l
+    where
+      by-time : (b : Bool) → passes (cond b (losing (on (next m) ys)) (stays m (missing t ∷ ys))) ≤ suc j
+          → Alike (cond b (losing (on (next m) zs)) (stays m (missing t ∷ zs))) (cond b (losing (on (next m) ys)) (stays m (missing t ∷ ys)))
+      by-time true l = let e = rest (omega arith) in (e .0, omega (arith, e .1), e .2)
+      by-time false l = (refl, refl, refl)
+
+  walk-part : (f : ℕ → Cell ℕ) (m j n : ℕ) → j ≤ n → passes (on m (window f m n)) ≤ j → Alike (on m (window f m j)) (on m (window f m n))
+  unfolding window
+  walk-part f m zero zero h l = (refl, refl, refl)
+  walk-part f m zero (suc n) h l = none-passed m (f (m % 32)) (window f (next m) n) l
+  walk-part f m (suc j) zero h l = absurd (let z : ⊥ = omega arith in z)
+  walk-part f m (suc j) (suc n) h l =
+      one-passed m (f (m % 32)) (window f (next m) n) (window f (next m) j) j (walk-part f (next m) j n (omega arith)) l
+
+  pub walk-first : (f : ℕ → Cell ℕ) (m n room : ℕ) → passes (on m (window f m n)) ≤ room → Alike (on m (window f m (most n room))) (on m (window f m n))
+  walk-first f m n room l = by-test (leb n room) refl
+    where
+      by-test : (b : Bool) → leb n room ≡ b → Alike (on m (window f m (most n room))) (on m (window f m n))
+      by-test true e = let all : most n room ≡ n = omega (arith, leb-true n room e) in rw all (refl, refl, refl)
+      by-test false e =
+          let some : most n room ≡ room = omega (arith, leb-false n room e) in rw some (walk-part f m room n (omega (arith, leb-false n room e)) l)

@@ -1,5 +1,5 @@
 // A channel's record by value: C, M and the latest time. Its cells stay in the lent parts (document 01, 'The channel table').
-// What becomes of its window is said here; what is decided of an event, in judging.rt; what a window's slots hold and take, in window.rt.
+// What becomes of its window is said here; what is decided of an event, in judging.rt; the settling loop, in window.rt.
 ghost use mathlib.Core.Path.{_≡_};
 ghost use Prim.Native.Nat.{_-_, _%_};
 ghost use Rattle.ring.specs.Ring.{forward, next};
@@ -16,8 +16,6 @@ pub use judging::judge;
 use larq::WINDOW;
 use ring::Seq;
 pub use window::Settled;
-pub use window::hand;
-pub use window::miss;
 
 pub struct Record {
     pub current: Seq,

@@ -1,74 +1,12 @@
-// Loops over the slots of a window's numbers, in place (document 01, 'Settling', 'Tick' and what is said of waiting handles).
-// Every function takes any input: where the parts are not those of a place, or a buffer has no room, it goes over no number.
+// The settling loop over the window, in place (document 01, 'Settling' and 'Tick').
 ghost use mathlib.Core.Path.{_≡_};
 ghost use mathlib.Core.Bool.{cond};
+ghost use Prim.Native.Nat.{_-_};
 ghost use lib.ListN.{length};
 ghost use Rattle.record.specs.Moving.{spanIn};
-ghost use Rattle.record.specs.Slots.{waitingOf, Laid, Missed, Settles, handNumbers, missNumbers, settleNumbers};
+ghost use Rattle.record.specs.Walk.{Settles, most, settleNumbers};
 use crate::Record;
 use crate::slot;
-use ring::Seq;
-
-// All n numbers, or none.
-fn all_or_none(all: bool, n: u16) -> u16
-    ensures { λ r. ⌜ r ≡ cond all n 0 ⌝ }
-{
-    if all { n } else { 0 }
-}
-
-// Lays the handles that wait among n numbers from `from` on into `out`: how many they are.
-pub fn hand(handles: &[u32], marks: &[u8], from: Seq, n: u16, out: &mut [u32]) -> usize
-    ensures { λ r. ⌜ Laid (waitingOf (now (handles .entry)) (now (marks .entry)) (from .0)
-        (handNumbers (now (handles .entry)) (now (marks .entry)) n (now (out .entry)))) 0 (now (out .entry)) (now (out .exit)) r ⌝ }
-{
-    let mut to: usize = 0;
-    let mut i = from;
-    let mut left = all_or_none(
-        (handles.len() == 32) & (marks.len() == 32) & (n as usize <= out.len()),
-        n,
-    );
-    while 0 < left {
-        let j = slot(i);
-        if marks[j] != 0 {
-            out[to] = handles[j];
-            to += 1;
-        }
-        i = i.forward(1);
-        left -= 1;
-    }
-    to
-}
-
-// Makes n numbers from `from` on missing at this time, and asks for them: how many are asked for.
-pub fn miss(
-    words: &mut [u64],
-    marks: &mut [u8],
-    nack: &mut [u16],
-    from: Seq,
-    n: u16,
-    time: u64,
-) -> usize
-    ensures { λ r. ⌜ (r ≡ missNumbers (now (words .entry)) (now (marks .entry)) n (now (nack .entry)))
-        × Missed (from .0) (missNumbers (now (words .entry)) (now (marks .entry)) n (now (nack .entry))) time
-        (now (words .entry)) (now (marks .entry)) (now (nack .entry)) (now (words .exit)) (now (marks .exit)) (now (nack .exit)) ⌝ }
-{
-    let mut i = from;
-    let mut left = all_or_none(
-        (words.len() == 35) & (marks.len() == 32) & (n as usize <= nack.len()),
-        n,
-    );
-    let mut to: usize = 0;
-    while 0 < left {
-        let j = slot(i);
-        words[3 + j] = time;
-        marks[j] = 0;
-        nack[to] = i.0;
-        to += 1;
-        i = i.forward(1);
-        left -= 1;
-    }
-    to
-}
 
 // A record whose M has moved on, how many handles went up, and how many numbers were given up.
 pub struct Settled {
@@ -77,8 +15,30 @@ pub struct Settled {
     pub lost: usize,
 }
 
+// How many entries a buffer has from `at` on.
+fn room_from(at: usize, length: usize) -> usize
+    ensures { λ r. ⌜ r ≡ length - at ⌝ }
+{
+    if at <= length { length - at } else { 0 }
+}
+
+// As many of n numbers as there is room for.
+fn least(n: u16, room: usize) -> u16
+    ensures { λ r. ⌜ r ≡ most n room ⌝ }
+{
+    if n as usize <= room { n } else { room as u16 }
+}
+
+// All n numbers, or none.
+fn all_or_none(all: bool, n: u16) -> u16
+    ensures { λ r. ⌜ r ≡ cond all n 0 ⌝ }
+{
+    if all { n } else { 0 }
+}
+
 impl Record {
     // M moves on while it waits, and goes up, or is missing since before `until`, and is given up. What goes up is laid into `up` from `at` on.
+    // M passes no more numbers than there is room for, and none where the parts are not those of a place.
     pub fn settled(
         self,
         words: &[u64],
@@ -93,17 +53,15 @@ impl Record {
     {
         let mut kept = self;
         let mut left = all_or_none(
-            (words.len() == 35) & ((handles.len() == 32) & (marks.len() == 32)) & (at <= up.len()),
-            self.span(),
+            (words.len() == 35) & ((handles.len() == 32) & (marks.len() == 32)),
+            least(self.span(), room_from(at, up.len())),
         );
         let mut gone: usize = 0;
         let mut lost: usize = 0;
         while 0 < left {
             let j = slot(kept.oldest);
             if marks[j] != 0 {
-                if gone < up.len() - at {
-                    up[at + gone] = handles[j];
-                }
+                up[at + gone] = handles[j];
                 gone += 1;
             } else {
                 if until <= words[3 + j] {

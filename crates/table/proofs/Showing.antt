@@ -11,7 +11,7 @@ use Rattle.larq.specs.Channel.{window, sound}
 use Rattle.larq.proofs.Sound.{Sound, sound-is}
 use Rattle.record.specs.Place.{cellAt, spanOf, recordWith, recordOf, soundAt}
 use Rattle.record.specs.Place as place
-use Rattle.record.specs.Slots.{Laid}
+use Rattle.record.specs.Buffers.{Laid}
 use Rattle.record.proofs.Laying.{wrote-front}
 use Rattle.record.proofs.Sounds.{sound-handles}
 use Rattle.record.proofs.Sounds.{sound-by-sizes}

@@ -2,7 +2,7 @@
 use mathlib.Core.Path.{refl, _∙_}
 use native.Mathlib.Omega.{arith}
 use Rattle.record.proofs.Laying.{laid-length}
-use Rattle.channel.proofs.StepAhead.{handed-few, settle-sized, settle-room, ahead-did}
+use Rattle.channel.proofs.StepAhead.{handed-room, handed-few, count-room, settle-sized, settle-room, ahead-did}
 use borrow.Author.Needs.{needs}
 use Rattle.channel.proofs.act.ahead.Statement.{statement}
 use Rattle.channel.proofs.act.ahead.Tie as tie
@@ -11,8 +11,8 @@ use Rattle.channel.proofs.act.ahead.Lts as lts
 use Rattle.channel.proofs.act.bring.Reads as bring-reads
 use Rattle.channel.proofs.act.settle.Reads as settle-reads
 use Rattle.record.proofs.Record.grown.Reads as grown-reads
-use Rattle.record.proofs.hand.Reads as hand-reads
-use Rattle.record.proofs.miss.Reads as miss-reads
+use Rattle.channel.proofs.window.hand.Reads as hand-reads
+use Rattle.channel.proofs.window.miss.Reads as miss-reads
 
 -- from a call back to the one before, and to the entry
 abbrev at-miss : tie.After-bring → tie.After-miss
@@ -31,10 +31,16 @@ grown-requires : tie.Need-grown-requires
 grown-requires c κs = search needs
 
 hand-requires : tie.Need-hand-requires
-hand-requires c κs = search needs
+hand-requires c κs =
+    let g = c .before .before .before in
+    let p = at-entry g .pre in
+    ((p .0 .0 .sized .handles, p .0 .0 .sized .marks), omega (arith, p .1 .0 .0, handed-room (p .0 .0) (p .0 .1) (p .1 .1) (g .grown .ensures)))
 
 miss-requires : tie.Need-miss-requires
-miss-requires c κs = search needs
+miss-requires c κs =
+    let g = at-grown (c .before .before .before .before .before) in
+    let p = at-entry g .pre in
+    ((p .0 .0 .sized .words, p .0 .0 .sized .marks), omega (arith, p .1 .0 .1, count-room (p .0 .0) (p .0 .1) (p .1 .1) (g .grown .ensures)))
 
 bring-requires : tie.Need-bring-requires
 bring-requires c κs =
@@ -47,7 +53,7 @@ sub-t33 c =
     let h = at-hand (at-miss (c .before .before .before .before .before .before)) in
     let g = at-grown h in
     let p = at-entry g .pre in
-    handed-few (p .0 .0) (p .0 .1) (p .1 .1) (g .grown .ensures) (p .1 .0 .0) (h .hand .ensures)
+    omega (arith, h .hand .ensures .end-is, handed-few (p .0 .0) (p .0 .1) (p .1 .1) (g .grown .ensures))
 
 settle-requires : tie.Need-settle-requires
 settle-requires c κs =

@@ -3,7 +3,7 @@ use Prim.Native.Nat.{_+_}
 use mathlib.Core.Path.{refl, ap, _∙_}
 use native.Mathlib.Omega.{arith}
 use Rattle.record.specs.Place.{recordOf}
-use Rattle.channel.proofs.Places.{walked, settled-record, lost-few}
+use Rattle.channel.proofs.Places.{walked, settled-record, passed-few}
 use borrow.Author.Needs.{needs}
 use Rattle.channel.proofs.act.settle.Statement.{statement}
 use Rattle.channel.proofs.act.settle.Tie as tie
@@ -32,7 +32,7 @@ add-t19 c =
     let w = c .before .before .before .before .before .before .before .before .before .before .before in
     let a = at-entry w in
     omega
-    (arith, walked (a .pre .0) (a .pre .1 .2) (w .settled .ensures) .lost, a .pre .1, lost-few (a .args .r) (a .args .until) (a .args .words .now) (a .args .handles .now) (a .args .marks .now) (a .pre .1 .0))
+    (arith, walked (a .pre .0) (a .pre .1 .2) (w .settled .ensures) .lost, a .pre .1, passed-few (a .args .r) (a .args .until) (a .args .words .now) (a .args .handles .now) (a .args .marks .now) (a .pre .1 .0))
 
 same-length : tie.Need-same-length
 same-length c = search needs

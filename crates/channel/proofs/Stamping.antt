@@ -11,10 +11,9 @@ use lib.ListN.{length, getD, set, length-set}
 use lib.Seq.{sets, getD-set-same, getD-set-other}
 use borrow.Author.Tests.{eqb-true, eqb-false}
 use Rattle.ring.specs.Ring.{next, rising}
-use Rattle.record.specs.Slots.{stamped, Missed, missNumbers}
+use Rattle.channel.specs.Slots.{stamped, Missed}
 use Rattle.record.proofs.Rounds.{slot-none, slot-next}
 use Rattle.record.proofs.Laying.{sets-more}
-use Rattle.record.proofs.Fitting.{some-fits, numbers-room, all-numbers}
 
 module _ (base v : ℕ) where
   pub length-stamped : (l : List ℕ) (m n : ℕ) → length (stamped base l m n v) ≡ length l
@@ -66,39 +65,16 @@ rising-none m n e = ap (rising m) e
 rising-suc : (m n : ℕ) → 0 < n → rising m n ≡ m ∷ rising (next m) (n - 1)
 rising-suc m n p = ap (rising m) (let e : n ≡ suc (n - 1) = omega arith in e)
 
--- the parts are those of a place and there is room: all of them are missing
-pub missed-all : {m n time : ℕ} {w k q w′ k′ q′ : List ℕ} → length w ≡ 35 → length k ≡ 32 → n ≤ length q
-    → Missed m (missNumbers w k n q) time w k q w′ k′ q′ → Missed m n time w k q w′ k′ q′
-missed-all {n = n} {w = w} {k = k} {q = q} a b l missed = rw (all-numbers 35 32 w k n q a b l) at missed
-
 -- What the loop keeps: what is still to be put from here is what was to be put from the start.
 pub record Misses (m n time : ℕ) (w k q w′ k′ q′ : List ℕ) (i left to : ℕ) : Type 0 where
   pub room : to + left ≤ length q′
   pub count : to + left ≡ n
-  pub words-whole : 0 < left → length w′ ≡ 35
-  pub marks-whole : 0 < left → length k′ ≡ 32
-  pub words-sized : length w′ ≡ length w
-  pub marks-sized : length k′ ≡ length k
+  pub words-sized : length w′ ≡ 35
+  pub marks-sized : length k′ ≡ 32
   pub nack-sized : length q′ ≡ length q
   pub words : stamped 3 w′ i left time ≡ stamped 3 w m n time
   pub marks : stamped 0 k′ i left 0 ≡ stamped 0 k m n 0
   pub nack : sets q′ to (rising i left) ≡ sets q 0 (rising m n)
-
--- before the first turn
-pub misses-start : (m n left time : ℕ) (w k q : List ℕ) → left ≡ missNumbers w k n q → Misses m left time w k q w k q m left 0
-misses-start m n left time w k q e =
-    record {
-      room = omega (arith, e, numbers-room 35 32 w k n q);
-      count = omega arith;
-      words-whole = λ p. some-fits 35 32 w k n q (rw e at p) .first;
-      marks-whole = λ p. some-fits 35 32 w k n q (rw e at p) .second;
-      words-sized = refl;
-      marks-sized = refl;
-      nack-sized = refl;
-      words = refl;
-      marks = refl;
-      nack = refl;
-    }
 
 module _ {m n time : ℕ} {w k q w′ k′ q′ : List ℕ} {i left to : ℕ} (keeps : Misses m n time w k q w′ k′ q′ i left to) where
   pub misses-end : left ≡ 0 → (to ≡ n) × Missed m n time w k q w′ k′ q′
@@ -118,8 +94,6 @@ module _ {m n time : ℕ} {w k q w′ k′ q′ : List ℕ} {i left to : ℕ} (k
       (record {
         room = simp length-set (omega (arith, keeps .room));
         count = omega (arith, keeps .count);
-        words-whole = λ _. length-set w′ (3 + i % 32) time ∙ keeps .words-whole some;
-        marks-whole = λ _. length-set k′ (i % 32) 0 ∙ keeps .marks-whole some;
         words-sized = length-set w′ (3 + i % 32) time ∙ keeps .words-sized;
         marks-sized = length-set k′ (i % 32) 0 ∙ keeps .marks-sized;
         nack-sized = length-set q′ to i ∙ keeps .nack-sized;

@@ -2,26 +2,23 @@
 use mathlib.Core.Path.{refl}
 use native.Mathlib.Omega.{arith}
 use borrow.Author.Needs.{needs}
-use Rattle.record.proofs.Stamping.{Misses, misses-start, misses-end, misses-turn}
-use Rattle.record.proofs.window.miss.Statement.{statement}
-use Rattle.record.proofs.window.miss.Tie as tie
-use Rattle.record.proofs.window.miss.Reads as reads
-use Rattle.record.proofs.window.miss.Lts as lts
+use Rattle.channel.proofs.Stamping.{Misses, misses-end, misses-turn}
+use Rattle.channel.proofs.window.miss.Statement.{statement}
+use Rattle.channel.proofs.window.miss.Tie as tie
+use Rattle.channel.proofs.window.miss.Reads as reads
+use Rattle.channel.proofs.window.miss.Lts as lts
 use Rattle.record.proofs.slot.Reads as slot-reads
 use Rattle.ring.proofs.Seq.forward.Reads as forward-reads
 
 abbrev Inv-loop : tie.InvT-loop
 Inv-loop words₀ marks₀ nack₀ n time i₀ left₀ to₀ words marks nack i left to =
-    Misses (i₀ .0) left₀ time words₀ marks₀ nack₀ words marks nack (i .0) left to
+    Misses (i₀ .0) n time words₀ marks₀ nack₀ words marks nack (i .0) left to
 
 abbrev μ-loop : tie.MeasureT-loop
 μ-loop words₀ marks₀ nack₀ n time i₀ left₀ to₀ words marks nack i left to = left
 
-all-or-none-requires : tie.Need-all-or-none-requires Inv-loop μ-loop
-all-or-none-requires c κs = search needs
-
 loop-holds : tie.Need-loop-holds Inv-loop μ-loop
-loop-holds c = misses-start _ (c .before .before .before .before .args .n) _ _ _ _ _ (c .all-or-none .ensures)
+loop-holds c = search needs
 
 slot-requires : tie.Need-slot-requires Inv-loop μ-loop
 slot-requires c κs = search needs
@@ -33,10 +30,10 @@ mul-words : tie.Need-mul-words Inv-loop μ-loop
 mul-words c = search needs
 
 slice-write-words : tie.Need-slice-write-words Inv-loop μ-loop
-slice-write-words c = omega (arith, c .before .before .loop .inv .words-whole (omega arith), c .slot .ensures)
+slice-write-words c = search needs
 
 slice-write-marks : tie.Need-slice-write-marks Inv-loop μ-loop
-slice-write-marks c = omega (arith, c .before .before .loop .inv .marks-whole (omega arith), c .slot .ensures)
+slice-write-marks c = search needs
 
 mul-nack : tie.Need-mul-nack Inv-loop μ-loop
 mul-nack c = search needs
@@ -69,7 +66,7 @@ same-length-3 : tie.Need-same-length-3 Inv-loop μ-loop
 same-length-3 c = search needs
 
 returns : tie.Need-returns Inv-loop μ-loop
-returns c = rw (c .before .before .all-or-none .ensures) at (misses-end (c .before .loop .inv) (omega arith))
+returns c = misses-end (c .before .loop .inv) (omega arith)
 
 pub miss-spec : {M : Type 1} → statement M
 miss-spec =
@@ -77,7 +74,6 @@ miss-spec =
     (tie.spec
     Inv-loop
     μ-loop
-    all-or-none-requires
     loop-holds
     slot-requires
     add-words

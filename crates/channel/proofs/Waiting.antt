@@ -9,12 +9,12 @@ use lib.ListN.{length, getD, set, length-set}
 use lib.Seq.{sets}
 use Rattle.ring.specs.Ring.{next}
 use Rattle.larq.specs.Channel.{Cell, waits, missing, waiting}
 use Rattle.record.specs.Place.{window, cellAt}
-use Rattle.record.specs.Slots.{waitingOf, Laid, handNumbers}
+use Rattle.channel.specs.Slots.{waitingOf}
+use Rattle.record.specs.Buffers.{Laid}
 use Rattle.record.proofs.Windows.{window-none, window-suc, length-window, cell-waits, cell-missing}
 use Rattle.record.proofs.Walks.{waiting-few}
 use Rattle.record.proofs.Laying.{sets-more}
-use Rattle.record.proofs.Fitting.{some-fits, numbers-room, all-numbers}
 
 -- the words of a place have no part in it
 pub waiting-window : (words handles marks : List ℕ) (m n : ℕ) → waiting (window (cellAt words handles marks) m n) ≡ waitingOf handles marks m n
@@ -33,59 +33,36 @@ pub waiting-short : (handles marks : List ℕ) (m n : ℕ) → length (waitingOf
 waiting-short handles marks m n =
     omega (arith, waiting-few (window (cellAt [] handles marks) m n), length-window (cellAt [] handles marks) m n)
 
--- the parts are those of a place and there is room: all of them are laid
-pub laid-all : (h k : List ℕ) (m n : ℕ) {before after : List ℕ} {end : ℕ} → length h ≡ 32 → length k ≡ 32 → n ≤ length before
-    → Laid (waitingOf h k m (handNumbers h k n before)) 0 before after end → Laid (waitingOf h k m n) 0 before after end
-laid-all h k m n {before} a b l laid = rw (all-numbers 32 32 h k n before a b l) at laid
-
 -- What the loop keeps: what is still to be laid from here is what was to be laid from the start.
-pub record Lays (h k : List ℕ) (m n : ℕ) (before out : List ℕ) (to i left : ℕ) : Type 0 where
-  pub handles-sized : 0 < left → length h ≡ 32
-  pub marks-sized : 0 < left → length k ≡ 32
+pub record Lays (h k : List ℕ) (m n at : ℕ) (before out : List ℕ) (to i left : ℕ) : Type 0 where
   pub room : to + left ≤ length out
   pub sized : length out ≡ length before
-  pub end : to + length (waitingOf h k i left) ≡ 0 + length (waitingOf h k m n)
-  pub laid : sets out to (waitingOf h k i left) ≡ sets before 0 (waitingOf h k m n)
+  pub end : to + length (waitingOf h k i left) ≡ at + length (waitingOf h k m n)
+  pub laid : sets out to (waitingOf h k i left) ≡ sets before at (waitingOf h k m n)
 
--- before the first turn
-pub lays-start : (h k : List ℕ) (m n left : ℕ) (out : List ℕ) → left ≡ handNumbers h k n out → Lays h k m left out out 0 m left
-lays-start h k m n left out e =
-    record {
-      handles-sized = λ p. some-fits 32 32 h k n out (rw e at p) .first;
-      marks-sized = λ p. some-fits 32 32 h k n out (rw e at p) .second;
-      room = omega (arith, e, numbers-room 32 32 h k n out);
-      sized = refl;
-      end = refl;
-      laid = refl;
-    }
-
-module _ {h k : List ℕ} {m n : ℕ} {before out : List ℕ} {to i left : ℕ} (keeps : Lays h k m n before out to i left) where
-  pub lays-end : left ≡ 0 → Laid (waitingOf h k m n) 0 before out to
+module _ {h k : List ℕ} {m n at : ℕ} {before out : List ℕ} {to i left : ℕ} (keeps : Lays h k m n at before out to i left) where
+  pub lays-end : left ≡ 0 → Laid (waitingOf h k m n) at before out to
   lays-end z =
       let e : waitingOf h k i left ≡ [] = ap waiting (window-none (cellAt [] h k) i left z) in
       record { end-is = omega (arith, ap length e, keeps .end); buffer = sym (ap (sets out to) e) ∙ keeps .laid }
 
   module _ {j i′ : ℕ} (some : 0 < left) (at-slot : j ≡ i % 32) (step : i′ ≡ next i) where
-    pub lays-waits : (getD k j 0 ≡ 0 → ⊥) → Lays h k m n before (set out to (getD h j 0)) (to + 1) i′ (left - 1)
+    pub lays-waits : (getD k j 0 ≡ 0 → ⊥) → Lays h k m n at before (set out to (getD h j 0)) (to + 1) i′ (left - 1)
     lays-waits o =
         let e : waitingOf h k i left ≡ getD h j 0 ∷ waitingOf h k i′ (left - 1) =
         rw (at-slot, step) (ap waiting (window-suc (cellAt [] h k) i left some) ∙ rw (cell-waits [] h k (i % 32) (rw at-slot at o))) in
         record {
-          handles-sized = λ _. keeps .handles-sized some;
-          marks-sized = λ _. keeps .marks-sized some;
           room = simp length-set (omega (arith, keeps .room));
           sized = length-set out to (getD h j 0) ∙ keeps .sized;
           end = omega (arith, ap length e, keeps .end);
           laid = sets-more out to (getD h j 0) (waitingOf h k i′ (left - 1)) ∙ ap (sets out to) (sym e) ∙ keeps .laid;
         }
 
-    pub lays-missing : getD k j 0 ≡ 0 → Lays h k m n before out to i′ (left - 1)
+    pub lays-missing : getD k j 0 ≡ 0 → Lays h k m n at before out to i′ (left - 1)
     lays-missing o =
         let e : waitingOf h k i left ≡ waitingOf h k i′ (left - 1) =
         rw step (ap waiting (window-suc (cellAt [] h k) i left some) ∙ rw (cell-missing [] h k (i % 32) (rw at-slot at o))) in
         record {
-          handles-sized = λ _. keeps .handles-sized some;
-          marks-sized = λ _. keeps .marks-sized some;
           room = omega (arith, keeps .room);
           sized = keeps .sized;
           end = omega (arith, ap length e, keeps .end);

@@ -5,37 +5,34 @@ use mathlib.Core.Logic.{⊎-elim}
 use native.Mathlib.Omega.{arith}
 use borrow.Author.Needs.{needs}
 use lib.ListN.{length, getD, set}
-use Rattle.record.proofs.Waiting.{Lays, lays-start, lays-end, lays-waits, lays-missing}
-use Rattle.record.proofs.window.hand.Statement.{statement}
-use Rattle.record.proofs.window.hand.Tie as tie
-use Rattle.record.proofs.window.hand.Reads as reads
-use Rattle.record.proofs.window.hand.Lts as lts
+use Rattle.channel.proofs.Waiting.{Lays, lays-end, lays-waits, lays-missing}
+use Rattle.channel.proofs.window.hand.Statement.{statement}
+use Rattle.channel.proofs.window.hand.Tie as tie
+use Rattle.channel.proofs.window.hand.Reads as reads
+use Rattle.channel.proofs.window.hand.Lts as lts
 use Rattle.record.proofs.slot.Reads as slot-reads
 use Rattle.ring.proofs.Seq.forward.Reads as forward-reads
 
 abbrev Inv-loop : tie.InvT-loop
-Inv-loop handles marks n out₀ to₀ i₀ left₀ out to i left = Lays handles marks (i₀ .0) left₀ out₀ out to (i .0) left
+Inv-loop handles marks n out₀ at to₀ i₀ left₀ out to i left = Lays handles marks (i₀ .0) n at out₀ out to (i .0) left
 
 abbrev μ-loop : tie.MeasureT-loop
-μ-loop handles marks n out₀ to₀ i₀ left₀ out to i left = left
-
-all-or-none-requires : tie.Need-all-or-none-requires Inv-loop μ-loop
-all-or-none-requires c κs = search needs
+μ-loop handles marks n out₀ at to₀ i₀ left₀ out to i left = left
 
 loop-holds : tie.Need-loop-holds Inv-loop μ-loop
-loop-holds c = lays-start _ _ _ (c .before .before .before .before .args .n) _ _ (c .all-or-none .ensures)
+loop-holds c = record { room = omega arith; sized = refl; end = refl; laid = refl }
 
 slot-requires : tie.Need-slot-requires Inv-loop μ-loop
 slot-requires c κs = search needs
 
 shared-slice-read-if1 : tie.Need-shared-slice-read-if1 Inv-loop μ-loop
-shared-slice-read-if1 c = omega (arith, c .before .before .before .loop .inv .marks-sized (omega arith), c .before .slot .ensures)
+shared-slice-read-if1 c = search needs
 
 mul-out : tie.Need-mul-out Inv-loop μ-loop
 mul-out c = search needs
 
 shared-slice-read-out : tie.Need-shared-slice-read-out Inv-loop μ-loop
-shared-slice-read-out c = omega (arith, c .before .before .before .before .before .loop .inv .handles-sized (omega arith), c .before .before .before .slot .ensures)
+shared-slice-read-out c = search needs
 
 mul-out-2 : tie.Need-mul-out-2 Inv-loop μ-loop
 mul-out-2 c = search needs
@@ -68,7 +65,7 @@ same-length : tie.Need-same-length Inv-loop μ-loop
 same-length c = c .before .loop .inv .sized
 
 returns : tie.Need-returns Inv-loop μ-loop
-returns c = rw (c .before .before .all-or-none .ensures) at (lays-end (c .before .loop .inv) (omega arith))
+returns c = lays-end (c .before .loop .inv) (omega arith)
 
 pub hand-spec : {M : Type 1} → statement M
 hand-spec =
@@ -76,7 +73,6 @@ hand-spec =
     (tie.spec
     Inv-loop
     μ-loop
-    all-or-none-requires
     loop-holds
     slot-requires
     shared-slice-read-if1
