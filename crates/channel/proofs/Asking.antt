@@ -13,7 +13,7 @@ use Rattle.ring.proofs.Steps.{forward-forward}
 use Rattle.larq.specs.Channel.{Channel}
 use Rattle.larq.specs.Settling.{Walked}
 use Rattle.larq.specs.Events.{those, inWindow, asked}
-use Rattle.channel.proofs.Rounds.{forward-none, forward-next, ahead-by, behind-by}
+use Rattle.record.proofs.Rounds.{forward-none, forward-next, ahead-by, behind-by}
 
 -- a test that fails on the first g of k numbers, and passes on the others
 pub those-run : (test : ℕ → Bool) (a k g : ℕ) → a < size → ((i : ℕ) → i < k → i < g → test (forward a i) ≡ false)

@@ -16,44 +16,15 @@ use Rattle.larq.specs.Channel.{Cell, Channel, waits, missing, headMissing, time
 use Rattle.larq.specs.Answer.{Change, Outcome, refused, accepted, holds}
 use Rattle.larq.specs.Events.{Act, act-on, sideOf}
 use Rattle.larq.specs.Table.{one, lentEnough, numberInRing, notBefore, reminderNear}
-use Rattle.channel.specs.Place.{window, cellAt, spanOf, recordWith, recordOf}
-use Rattle.channel.specs.Call.{Wrote, Buffers, Parts, parts, buffers, Answered, Became, Says, Did, Called, ruleAt}
-use Rattle.channel.specs.Judge.{lentAt}
+use Rattle.record.specs.Place.{window, cellAt, spanOf, recordWith, recordOf}
+use Rattle.record.specs.Buffers.{Wrote}
+use Rattle.channel.specs.Call.{Buffers, Parts, parts, buffers, Answered, Became, Says, Did, Called, ruleAt}
+use Rattle.channel.specs.Steps.{lentAt}
 use Rattle.channel.specs.declared.Answer.{Answer}
-use Rattle.channel.specs.declared.record.Record.{Record}
-use Rattle.channel.proofs.Windows.{length-window}
-use Rattle.channel.proofs.Laying.{wrote-idle}
+use Rattle.record.specs.declared.Record.{Record}
+use Rattle.record.proofs.Sounds.{sound-handles}
+use Rattle.record.proofs.Laying.{wrote-idle}
 use Rattle.channel.proofs.Opening.{Stopped, Opened, passes}
-
--- The handles have no part in whether a record is broken.
-times-window : (w h k : List ℕ) (m n : ℕ) → times (window (cellAt w h k) m n) ≡ times (window (cellAt w [] k) m n)
-unfolding window
-times-window w h k m zero = refl
-times-window w h k m (suc n) = by-mark (eqb (getD k (m % 32) 0) 0) (times-window w h k (next m) n)
-  where
-    by-mark : (b : Bool) → times (window (cellAt w h k) (next m) n) ≡ times (window (cellAt w [] k) (next m) n)
-        → times (cond b (missing (getD w (3 + m % 32) 0)) (waits (getD h (m % 32) 0)) ∷ window (cellAt w h k) (next m) n)
-        ≡ times (cond b (missing (getD w (3 + m % 32) 0)) (waits (getD [] (m % 32) 0)) ∷ window (cellAt w [] k) (next m) n)
-    by-mark true i = ap (λ l. getD w (3 + m % 32) 0 ∷ l) i
-    by-mark false i = i
-
-head-window : (w h k : List ℕ) (m n : ℕ) → headMissing (window (cellAt w h k) m n) ≡ headMissing (window (cellAt w [] k) m n)
-unfolding window
-head-window w h k m zero = refl
-head-window w h k m (suc n) = by-mark (eqb (getD k (m % 32) 0) 0)
-  where
-    by-mark : (b : Bool) → headMissing (cond b (missing (getD w (3 + m % 32) 0)) (waits (getD h (m % 32) 0)) ∷ window (cellAt w h k) (next m) n)
-        ≡ headMissing (cond b (missing (getD w (3 + m % 32) 0)) (waits (getD [] (m % 32) 0)) ∷ window (cellAt w [] k) (next m) n)
-    by-mark true = refl
-    by-mark false = refl
-
-pub sound-handles : (w h k : List ℕ) → sound channel.window (recordOf w h k) ≡ sound channel.window (recordOf w [] k)
-unfolding sound recordWith
-sound-handles w h k =
-    let c = getD w 0 0 in
-    let m = getD w 1 0 in
-    let n = spanOf c m in
-    rw (length-window (cellAt w h k) m n, length-window (cellAt w [] k) m n, head-window w h k m n, times-window w h k m n)
 
 -- the number of the first test that fails, and what is answered where all pass
 by-tests : {A : Type 0} (refuse : ℕ → A) (good : A) (a b c d : Bool) (n : ℕ) → first ((a else 1) ∷ ((b else 2) ∷ ((c else 6) ∷ ((d else 7) ∷ [])))) ≡ n → 0 < n

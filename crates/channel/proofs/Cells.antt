@@ -10,10 +10,10 @@ use lib.Seq.{getD-set-same, getD-set-other}
 use borrow.Author.Tests.{eq-eqb}
 use Rattle.ring.specs.Ring.{size, forward}
 use Rattle.larq.specs.Channel.{Cell, waits, missing}
-use Rattle.channel.specs.Place.{window, cellAt}
+use Rattle.record.specs.Place.{window, cellAt}
 use Rattle.channel.specs.Slots.{stamped}
-use Rattle.channel.proofs.Rounds.{slots-apart}
-use Rattle.channel.proofs.Windows.{window-add, window-same, window-all, cell-missing}
+use Rattle.record.proofs.Rounds.{slots-apart}
+use Rattle.record.proofs.Windows.{window-add, window-same, window-all, cell-missing}
 use Rattle.channel.proofs.Stamping.{stamped-in, stamped-out}
 
 -- a handle is put at slot i, and the slot marked

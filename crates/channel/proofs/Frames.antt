@@ -12,15 +12,16 @@ use Rattle.larq.specs.Channel.{waits, reach, Channel}
 use Rattle.larq.specs.Settling.{walk, wide}
 use Rattle.larq.specs.Answer.{Outcome, accepted, holds}
 use Rattle.larq.specs.Events.{frame, act-on, data-on, ahead, restarted, opened, asked, settledAt, taken}
-use Rattle.channel.specs.Place.{window, cellAt, spanOf, recordWith, recordOf}
+use Rattle.record.specs.Place.{window, cellAt, spanOf, recordWith, recordOf}
 use Rattle.channel.specs.Call.{Parts, Buffers, parts, buffers, Says, Did, Called}
-use Rattle.channel.specs.Steps.{Ready, recordIn, spanIn, headed, answerOf, filledAt, dataAt}
-use Rattle.channel.specs.Judge.{NextAt, MissingAt, KnownAt}
+use Rattle.record.specs.Moving.{recordIn, spanIn}
+use Rattle.channel.specs.Steps.{Ready, headed, answerOf, filledAt, dataAt}
+use Rattle.record.specs.Judge.{NextAt, MissingAt, KnownAt}
 use Rattle.channel.specs.declared.Answer.{Answer}
 use Rattle.channel.specs.declared.act.Counts.{Counts}
-use Rattle.channel.specs.declared.record.Record.{Record}
-use Rattle.channel.proofs.Windows.{window-none}
-use Rattle.channel.proofs.Laying.{wrote-none, wrote-one}
+use Rattle.record.specs.declared.Record.{Record}
+use Rattle.record.proofs.Windows.{window-none}
+use Rattle.record.proofs.Laying.{wrote-none, wrote-one}
 use Rattle.channel.proofs.Places.{record-taken}
 use Rattle.channel.proofs.Opening.{Opened, ready, ahead-by-one}
 use Rattle.channel.proofs.StepBehind.{rule-known}

@@ -14,18 +14,19 @@ use Rattle.ring.proofs.Steps.{forward-small, forward-forward, forward-steps}
 use Rattle.larq.specs.Channel.{Cell, waits, missing, waiting, headMissing, reach, Channel}
 use Rattle.larq.specs.Settling.{Walked, walk, wide}
 use Rattle.larq.specs.Events.{asked}
-use Rattle.channel.specs.Place.{window, cellAt, spanOf}
-use Rattle.channel.specs.Slots.{stamped, waitingOf, earlier}
+use Rattle.record.specs.Place.{window, cellAt, spanOf}
+use Rattle.record.specs.Walk.{earlier}
+use Rattle.channel.specs.Slots.{stamped, waitingOf}
 use Rattle.channel.specs.Steps.{Sized, cellsOf, handlesWith, marksWith}
 use Rattle.channel.specs.declared.act.Last.{Last}
 use Rattle.channel.specs.declared.act.Last.the-variants.{Waits, Missing}
-use Rattle.channel.proofs.Rounds.{slots-apart, span-end, span-between}
-use Rattle.channel.proofs.Windows.{window-none, window-suc, length-window, drop-window, take-window, cell-missing}
+use Rattle.record.proofs.Rounds.{slots-apart, span-end, span-between}
+use Rattle.record.proofs.Windows.{window-none, window-suc, length-window, drop-window, take-window, cell-missing}
 use Rattle.channel.proofs.Waiting.{waiting-window}
 use Rattle.channel.proofs.Stamping.{length-stamped}
 use Rattle.channel.proofs.Cells.{cell-brought, cell-beside, cell-missed, cell-unmissed, window-grown}
-use Rattle.channel.proofs.Walks.{so-far, passes, Passed, passed, waiting-append, waiting-few, waiting-fewer, waiting-none, up-few, passes-before, walk-narrow, walk-wide}
-use Rattle.channel.proofs.Appending.{drop-append, take-append, drop-replicate}
+use Rattle.record.proofs.Walks.{so-far, passes, Passed, passed, waiting-append, waiting-few, waiting-fewer, waiting-none, up-few, passes-before, walk-narrow, walk-wide}
+use Rattle.record.proofs.Appending.{drop-append, take-append, drop-replicate}
 use Rattle.channel.proofs.Asking.{asked-run}
 
 -- The numbers of a step: n is the span and d the steps to s, of which k are made missing; M has to pass `over` numbers, `past` of them new;

@@ -6,8 +6,9 @@ use mathlib.Core.Path.{_≡_, refl, ap, sym, _∙_}
 use mathlib.Core.List.{List}
 use Rattle.larq.specs.Answer.{Change, same, holds, freed, Outcome}
 use Rattle.larq.specs.Events.{Act}
-use Rattle.channel.specs.Place.{recordOf}
-use Rattle.channel.specs.Call.{Wrote, Buffers, Parts, Answered, Became, Called, ruleAt}
+use Rattle.record.specs.Place.{recordOf}
+use Rattle.record.specs.Buffers.{Wrote}
+use Rattle.channel.specs.Call.{Buffers, Parts, Answered, Became, Called, ruleAt}
 use Rattle.channel.specs.declared.Answer.{Answer}
 
 -- two places after the same change

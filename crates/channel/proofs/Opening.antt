@@ -11,22 +11,23 @@ use borrow.Author.Tests.{leb-true, eqb-true, eqb-false}
 use Rattle.wire.specs.Refusals.{Refusal, first, _else_}
 use Rattle.ring.specs.Ring.{next, steps, seen}
 use Rattle.ring.specs.declared.Side.the-variants.{Ahead}
-use Rattle.ring.proofs.Sides.{Seen, sees, is-ahead}
+use Rattle.ring.proofs.Sides.{Seen, sees}
 use Rattle.larq.specs.Channel as channel
 use Rattle.larq.specs.Channel.{headMissing, times, orderly, sound, reach, waits, missing, Cell}
 use Rattle.larq.specs.Table.{lentEnough, notBefore}
-use Rattle.channel.specs.Place.{window, cellAt, spanOf, recordWith, recordOf}
+use Rattle.record.specs.Place.{window, cellAt, spanOf, recordWith, recordOf}
 use Rattle.channel.specs.Call.{Parts, Buffers}
-use Rattle.channel.specs.Steps.{Sized, Ready, recordIn, spanIn, IsAhead, cellsOf}
-use Rattle.channel.specs.Judge.{lentAt, testsAt, Judges, RefusedBy, OpenAt, inRing, inShape, shapely}
-use Rattle.channel.specs.declared.record.Record.{Record}
-use Rattle.channel.specs.declared.judge.Judged.{Judged}
-use Rattle.channel.specs.declared.judge.Judged.the-variants.{Refused, Open}
+use Rattle.record.specs.Moving.{recordIn, spanIn}
+use Rattle.channel.specs.Steps.{Sized, Ready, lentAt, testsAt, IsAhead, cellsOf}
+use Rattle.record.specs.Judge.{Judges, RefusedBy, OpenAt, inRing, inShape, shapely}
+use Rattle.record.specs.declared.Record.{Record}
+use Rattle.record.specs.declared.judging.Judged.{Judged}
+use Rattle.record.specs.declared.judging.Judged.the-variants.{Refused, Open}
 use Rattle.channel.specs.declared.act.Last.{Last}
 use Rattle.channel.specs.declared.act.Last.the-variants.{Waits, Missing}
-use Rattle.channel.proofs.Windows.{length-window, window-suc, cell-waits}
-use Rattle.channel.proofs.Sounds.{and-left, and-right, ring-of, sound-is}
-use Rattle.channel.proofs.Judging.{Enough, enough-of}
+use Rattle.record.proofs.Windows.{length-window, window-suc, cell-waits}
+use Rattle.record.proofs.Sounds.{and-left, and-right, ring-of, sound-is}
+use Rattle.record.proofs.Refusing.{Enough, enough-of}
 
 -- no number of the four is given: all four tests pass
 all-pass : (a b c d : Bool) → first ((a else 1) ∷ ((b else 2) ∷ ((c else 6) ∷ ((d else 7) ∷ [])))) ≡ 0
@@ -130,8 +131,3 @@ module _ (c s d : ℕ) (is : seen (reach channel.window) c s ≡ Ahead d) where
 
 pub ahead-by-one : (c s : ℕ) → seen (reach channel.window) c s ≡ Ahead 1 → steps c s ≡ 1
 ahead-by-one c s is = ahead-of c s 1 is .is
-
--- M is one ahead of C where nothing is missing
-pub next-is-ahead : (c m s : ℕ) → s ≡ m → spanOf c m ≡ 0 → seen (reach channel.window) c s ≡ Ahead 1
-next-is-ahead c m s e none =
-    let one : steps c s ≡ 1 = omega arith in is-ahead (reach channel.window) c s (omega arith) 1 (omega arith) (omega arith) one

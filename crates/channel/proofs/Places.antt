@@ -10,14 +10,16 @@ use Rattle.ring.specs.Ring.{size, forward, steps}
 use Rattle.larq.specs.Channel.{Cell, Channel}
 use Rattle.larq.specs.Settling.{Walked, walk}
 use Rattle.larq.specs.Events.{moved, taken}
-use Rattle.channel.specs.Place.{window, cellAt, spanOf, recordWith, recordOf}
-use Rattle.channel.specs.Slots.{earlier}
-use Rattle.channel.specs.Steps.{headed, walkOf, Settles, Finished}
-use Rattle.channel.specs.declared.record.Record.{Record}
-use Rattle.channel.specs.declared.window.Settled.{Settled}
-use Rattle.channel.proofs.Rounds.{span-passed}
-use Rattle.channel.proofs.Windows.{drop-window, length-window, window-same}
-use Rattle.channel.proofs.Walks.{passes, Passed, passed}
+use Rattle.record.specs.Place.{window, cellAt, spanOf, recordWith, recordOf}
+use Rattle.record.specs.Moving.{spanIn}
+use Rattle.record.specs.Walk.{earlier, Settles, settleNumbers}
+use Rattle.record.proofs.Settling.{settles-all}
+use Rattle.channel.specs.Steps.{Sized, headed, walkOf, passedOf}
+use Rattle.record.specs.declared.Record.{Record}
+use Rattle.record.specs.declared.window.Settled.{Settled}
+use Rattle.record.proofs.Rounds.{span-passed}
+use Rattle.record.proofs.Windows.{drop-window, length-window, window-same}
+use Rattle.record.proofs.Walks.{passes, Passed, passed}
 
 -- the three words at the head have no part in the cells
 module _ (w h k : List ℕ) (c m t : ℕ) (sized : 2 < length w) where
@@ -71,9 +73,15 @@ walk-window givesUp f c m ring =
     ∙ ap (window f (forward m (passes p))) (sym (span-passed c m (passes p) few))
     ∙ sym (ap (λ x. window f x (spanOf c x)) (q .oldest))
 
+-- the parts are those of a place, and what M passes has room: it walks over the whole window
+pub walked : {r : Record} {until : ℕ} {w h k : List ℕ} {at : ℕ} {before after : List ℕ} {s : Settled} → Sized w h k
+    → at + passedOf r until w h k ≤ length before → Settles r (settleNumbers w h k (spanIn r) at before) until w h k at before after s
+    → Settles r (spanIn r) until w h k at before after s
+walked sized room = settles-all (sized .words) (sized .handles) (sized .marks) room
+
 -- the record when M has settled and the three words are laid down
 pub settled-record : (r : Record) (until : ℕ) (w h k : List ℕ) (at : ℕ) (before after : List ℕ) (s : Settled) → 2 < length w → r .oldest .0 < size
-    → Settles r until w h k at before after s
+    → Settles r (spanIn r) until w h k at before after s
     → recordOf (headed w (s .kept .current .0) (s .kept .oldest .0) (s .kept .latest)) h k
     ≡ moved (r .current .0) (r .latest) (walkOf r until w h k)
 unfolding recordWith
@@ -83,9 +91,8 @@ settled-record r until w h k at before after s sized ring e =
     (ap (λ cs. record { current = r .current .0; oldest = walkOf r until w h k .oldest; latest = r .latest; cells = cs })
     (sym (walk-window (earlier until) (cellAt w h k) (r .current .0) (r .oldest .0) ring)))
 
--- M gives up no more numbers than there are
-pub lost-few : (r : Record) (until : ℕ) (w h k : List ℕ) → r .oldest .0 < size → walkOf r until w h k .lost ≤ spanOf (r .current .0) (r .oldest .0)
-lost-few r until w h k ring =
-    let cells = window (cellAt w h k) (r .oldest .0) (spanOf (r .current .0) (r .oldest .0)) in
-    omega
-    (arith, passed (earlier until) (r .oldest .0) cells ring .few, length-window (cellAt w h k) (r .oldest .0) (spanOf (r .current .0) (r .oldest .0)))
+-- M passes no more numbers than there are
+pub passed-few : (r : Record) (until : ℕ) (w h k : List ℕ) → r .oldest .0 < size → passedOf r until w h k ≤ spanIn r
+passed-few r until w h k ring =
+    let cells = window (cellAt w h k) (r .oldest .0) (spanIn r) in
+    omega (arith, passed (earlier until) (r .oldest .0) cells ring .few, length-window (cellAt w h k) (r .oldest .0) (spanIn r))

@@ -15,17 +15,18 @@ use Rattle.larq.specs.Settling.{Walked, walk, hold, stale}
 use Rattle.larq.specs.Answer.{Outcome, refused, accepted, holds}
 use Rattle.larq.specs.Events.{reminder, tick, act-on, reminder-on, tick-on, ahead, noted, asked, settledAt, moved, taken}
 use Rattle.larq.specs.Table.{notFar}
-use Rattle.channel.specs.Place.{window, cellAt, recordWith, recordOf}
+use Rattle.record.specs.Place.{window, cellAt, spanOf, recordWith, recordOf}
 use Rattle.channel.specs.Call.{Parts, Buffers, parts, buffers, Says, Did, Called}
-use Rattle.channel.specs.Slots.{earlier}
-use Rattle.channel.specs.Steps.{Ready, recordIn, spanIn, walkOf, Finished, nothing, answerOf, reminderAt}
+use Rattle.record.specs.Walk.{earlier}
+use Rattle.record.specs.Moving.{recordIn, spanIn}
+use Rattle.channel.specs.Steps.{Ready, walkOf, passedOf, Finished, nothing, answerOf, reminderAt}
 use Rattle.channel.specs.declared.Answer.{Answer}
 use Rattle.channel.specs.declared.act.Counts.{Counts}
-use Rattle.channel.specs.declared.record.Record.{Record}
-use Rattle.channel.proofs.Windows.{length-window}
-use Rattle.channel.proofs.Laying.{wrote-front, wrote-none}
-use Rattle.channel.proofs.Walks.{up-few, waiting-few, walk-stale}
-use Rattle.channel.proofs.Places.{record-taken}
+use Rattle.record.specs.declared.Record.{Record}
+use Rattle.record.proofs.Windows.{length-window}
+use Rattle.record.proofs.Laying.{wrote-front, wrote-none}
+use Rattle.record.proofs.Walks.{up-few, waiting-few, walk-stale}
+use Rattle.channel.proofs.Places.{passed-few, record-taken}
 use Rattle.channel.proofs.Opening.{Opened, ready}
 use Rattle.channel.proofs.Calling.{answered-none, did-as, did-nothing, did-returned, did-nack, called-opened}
 
@@ -77,8 +78,9 @@ module _ {r : Record} {W H K : List ℕ} (is-ready : Ready r W H K) (t : ℕ) wh
           is-ready .narrow,
         )
 
-    pub tick-room : (U : List ℕ) → 32 ≤ length U → 0 + length (walkOf to until W H K .up) ≤ length U
-    tick-room U room = omega (arith, ap (λ p. length (p .up)) walk-to, few-up)
+    pub tick-room : (U : List ℕ) → 32 ≤ length U → 0 + passedOf to until W H K ≤ length U
+    tick-room U room =
+        omega (arith, passed-few to until W H K (rw to-oldest (is-ready .oldest)), ap₂ spanOf to-current to-oldest, is-ready .narrow)
 
     pub tick-did : {U u w : List ℕ} {k : Counts} → Finished to until (parts W H K) nothing U w u k → 32 ≤ length U
         → Did (tick-on c t) (parts W H K) (parts w H K) (buffers U [] []) (buffers u [] []) (answerOf k)

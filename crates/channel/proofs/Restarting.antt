@@ -8,15 +8,17 @@ use lib.ListN.{length, set, replicate}
 use Rattle.ring.specs.Ring.{size, next}
 use Rattle.larq.specs.Channel.{Cell, waiting}
 use Rattle.larq.specs.Events.{restarted, opened, close, close-on, act-on}
-use Rattle.channel.specs.Place.{window, cellAt, spanOf, recordWith, recordOf}
-use Rattle.channel.specs.Call.{Wrote, Says, Parts, Buffers, parts, buffers, Did, Called}
-use Rattle.channel.specs.Slots.{waitingOf, Laid}
-use Rattle.channel.specs.Steps.{Ready, recordIn, spanIn, headed}
+use Rattle.record.specs.Place.{window, cellAt, spanOf, recordWith, recordOf}
+use Rattle.record.specs.Buffers.{Wrote, Laid}
+use Rattle.channel.specs.Call.{Says, Parts, Buffers, parts, buffers, Did, Called}
+use Rattle.channel.specs.Slots.{waitingOf}
+use Rattle.channel.specs.Steps.{Ready, headed}
+use Rattle.record.specs.Moving.{recordIn, spanIn}
 use Rattle.channel.specs.declared.Answer.{Answer}
-use Rattle.channel.specs.declared.record.Record.{Record}
-use Rattle.channel.proofs.Windows.{window-none}
+use Rattle.record.specs.declared.Record.{Record}
+use Rattle.record.proofs.Windows.{window-none}
 use Rattle.channel.proofs.Waiting.{waiting-window, waiting-short}
-use Rattle.channel.proofs.Laying.{wrote-front, wrote-none, wrote-one}
+use Rattle.record.proofs.Laying.{wrote-front, wrote-none, wrote-one}
 use Rattle.channel.proofs.Places.{record-headed}
 use Rattle.channel.proofs.Opening.{Opened, ready}
 use Rattle.channel.proofs.Calling.{did-up, did-nack, called-opened}

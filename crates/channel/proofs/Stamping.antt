@@ -12,8 +12,8 @@ use lib.Seq.{sets, getD-set-same, getD-set-other}
 use borrow.Author.Tests.{eqb-true, eqb-false}
 use Rattle.ring.specs.Ring.{next, rising}
 use Rattle.channel.specs.Slots.{stamped, Missed}
-use Rattle.channel.proofs.Rounds.{slot-none, slot-next}
-use Rattle.channel.proofs.Laying.{sets-more}
+use Rattle.record.proofs.Rounds.{slot-none, slot-next}
+use Rattle.record.proofs.Laying.{sets-more}
 
 module _ (base v : ℕ) where
   pub length-stamped : (l : List ℕ) (m n : ℕ) → length (stamped base l m n v) ≡ length l

@@ -12,17 +12,21 @@ use Rattle.larq.specs.Channel as channel
 use Rattle.larq.specs.Settling.{Walked, walk, wide}
 use Rattle.larq.specs.Answer.{accepted, holds}
 use Rattle.larq.specs.Events.{ahead, settledAt, moved}
-use Rattle.channel.specs.Place.{window, cellAt, recordWith}
+use Rattle.record.specs.Place.{window, cellAt, recordWith}
 use Rattle.channel.specs.Call.{Did, parts, buffers}
-use Rattle.channel.specs.Slots.{Laid, Missed, stamped, waitingOf, earlier}
-use Rattle.channel.specs.Steps.{Sized, Ready, recordIn, spanIn, walkOf, Finished, answerOf, IsGrown, cellsOf, handlesWith, marksWith, IsAhead}
+use Rattle.record.specs.Buffers.{Laid}
+use Rattle.record.specs.Walk.{earlier}
+use Rattle.channel.specs.Slots.{Missed, stamped, waitingOf}
+use Rattle.channel.specs.Steps.{Sized, Ready, walkOf, passedOf, Finished, answerOf, cellsOf, handlesWith, marksWith, IsAhead}
+use Rattle.record.specs.Moving.{recordIn, spanIn, IsGrown}
 use Rattle.channel.specs.declared.Answer.{Answer}
-use Rattle.channel.specs.declared.record.Record.{Record}
-use Rattle.channel.specs.declared.record.Grown.{Grown}
+use Rattle.record.specs.declared.Record.{Record}
+use Rattle.record.specs.declared.Grown.{Grown}
 use Rattle.channel.specs.declared.act.Counts.{Counts}
 use Rattle.channel.specs.declared.act.Last.{Last}
 use Rattle.channel.specs.declared.act.Last.the-variants.{Waits, Missing}
-use Rattle.channel.proofs.Laying.{laid-length, laid-laid, wrote-front, wrote-none}
+use Rattle.record.proofs.Walks.{never-lost}
+use Rattle.record.proofs.Laying.{laid-length, laid-laid, wrote-front, wrote-none}
 use Rattle.channel.proofs.Waiting.{waiting-short}
 use Rattle.channel.proofs.Stamping.{length-stamped}
 use Rattle.channel.proofs.Growing.{Grows, new-cell, walk-again, past-few, span-again, walk-grown, up-room, asked-grown}
@@ -123,11 +127,11 @@ module _ {r : Record} {W H K : List ℕ} {s k t : ℕ} {last : Last} {to : Grown
               ∙ ready .sized .marks;
         }
 
-    pub settle-room : (to .kept .oldest .0 < 4096) × (to .over - end ≤ 4096) × (end + length (walkOf (to .kept) 0 w₁ h₂ k₂ .up) ≤ length u₁)
+    pub settle-room : (to .kept .oldest .0 < 4096) × (to .over - end ≤ 4096) × (end + passedOf (to .kept) 0 w₁ h₂ k₂ ≤ length u₁)
     settle-room = (
       rw (is .oldest) (forward-small m (to .over)),
       omega (arith, is .over, ready .narrow, is-ahead .near),
-      omega (arith, handing .end-is, up-to, up-few, laid-length handing),
+      omega (arith, handing .end-is, up-to, up-few, laid-length handing, never-lost (to .kept .oldest .0) (window (cellAt w₁ h₂ k₂) (to .kept .oldest .0) (spanIn (to .kept)))),
     )
 
     pub ahead-did : {w₂ u₂ : List ℕ} {had has : Counts} → had .up ≡ end → had .nack ≡ to .count → had .lost ≡ to .over - end

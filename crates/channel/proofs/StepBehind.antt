@@ -15,19 +15,20 @@ use Rattle.larq.specs.Channel.{Cell, waits, missing, waiting}
 use Rattle.larq.specs.Settling.{Walked, walk, wide}
 use Rattle.larq.specs.Answer.{accepted, holds}
 use Rattle.larq.specs.Events.{asked, filling, filled, settledAt, moved, taken}
-use Rattle.channel.specs.Place.{window, cellAt, recordWith, recordOf}
+use Rattle.record.specs.Place.{window, cellAt, recordWith, recordOf}
 use Rattle.channel.specs.Call.{Did, Says, parts, buffers}
-use Rattle.channel.specs.Slots.{earlier}
-use Rattle.channel.specs.Steps.{Sized, Ready, recordIn, spanIn, walkOf, Finished, nothing, answerOf, filledAt}
-use Rattle.channel.specs.Judge.{MissingAt, KnownAt}
+use Rattle.record.specs.Walk.{earlier}
+use Rattle.record.specs.Moving.{recordIn, spanIn}
+use Rattle.channel.specs.Steps.{Sized, Ready, walkOf, passedOf, Finished, nothing, answerOf, filledAt}
+use Rattle.record.specs.Judge.{MissingAt, KnownAt}
 use Rattle.channel.specs.declared.Answer.{Answer}
 use Rattle.channel.specs.declared.act.Counts.{Counts}
-use Rattle.channel.specs.declared.record.Record.{Record}
-use Rattle.channel.proofs.Rounds.{slot-steps}
-use Rattle.channel.proofs.Windows.{length-window, window-at, window-same, window-set, cell-waits, cell-missing}
-use Rattle.channel.proofs.Laying.{wrote-front, wrote-none, wrote-one}
+use Rattle.record.specs.declared.Record.{Record}
+use Rattle.record.proofs.Rounds.{slot-steps}
+use Rattle.record.proofs.Windows.{length-window, window-at, window-same, window-set, cell-waits, cell-missing}
+use Rattle.record.proofs.Laying.{wrote-front, wrote-none, wrote-one}
 use Rattle.channel.proofs.Cells.{cell-brought, cell-beside}
-use Rattle.channel.proofs.Walks.{up-few, waiting-few, walk-narrow}
+use Rattle.record.proofs.Walks.{up-few, waiting-few, walk-narrow, never-lost}
 use Rattle.channel.proofs.Filling.{filling-missing, filling-waiting, filling-past}
 
 module _ {r : Record} {W H K : List ℕ} (ready : Ready r W H K) (s x t : ℕ) where
@@ -113,8 +114,9 @@ module _ {r : Record} {W H K : List ℕ} (ready : Ready r W H K) (s x t : ℕ) w
             marks = ap length marks-are ∙ length-set K (s % 32) 1 ∙ ready .sized .marks;
           }
 
-      pub filled-room : (U : List ℕ) → 32 ≤ length U → 0 + length (walkOf to 0 W h k .up) ≤ length U
-      filled-room U room = omega (arith, ap (λ p. length (p .up)) walk-to, few-up)
+      pub filled-room : (U : List ℕ) → 32 ≤ length U → 0 + passedOf to 0 W h k ≤ length U
+      filled-room U room =
+          omega (arith, ap (λ p. length (p .up)) walk-to, few-up, never-lost (to .oldest .0) (window (cellAt W h k) (to .oldest .0) (spanIn to)))
 
       pub filled-did : {U w u : List ℕ} {n : Counts} → Finished to 0 (parts W h k) nothing U w u n → 32 ≤ length U
           → Did (filledAt (recordIn r W H K) t s x) (parts W H K) (parts w h k) (buffers U [] []) (buffers u [] []) (answerOf n)

@@ -9,11 +9,12 @@ use lib.ListN.{length, getD, set, length-set}
 use lib.Seq.{sets}
 use Rattle.ring.specs.Ring.{next}
 use Rattle.larq.specs.Channel.{Cell, waits, missing, waiting}
-use Rattle.channel.specs.Place.{window, cellAt}
-use Rattle.channel.specs.Slots.{waitingOf, Laid}
-use Rattle.channel.proofs.Windows.{window-none, window-suc, length-window, cell-waits, cell-missing}
-use Rattle.channel.proofs.Walks.{waiting-few}
-use Rattle.channel.proofs.Laying.{sets-more}
+use Rattle.record.specs.Place.{window, cellAt}
+use Rattle.channel.specs.Slots.{waitingOf}
+use Rattle.record.specs.Buffers.{Laid}
+use Rattle.record.proofs.Windows.{window-none, window-suc, length-window, cell-waits, cell-missing}
+use Rattle.record.proofs.Walks.{waiting-few}
+use Rattle.record.proofs.Laying.{sets-more}
 
 -- the words of a place have no part in it
 pub waiting-window : (words handles marks : List ℕ) (m n : ℕ) → waiting (window (cellAt words handles marks) m n) ≡ waitingOf handles marks m n

@@ -2,19 +2,15 @@
 use Prim.Native.Nat.{ℕ}
 use mathlib.Core.Path.{_≡_}
 use mathlib.Core.Bool.{Bool, true}
-use mathlib.Core.List.{List, [], _∷_, _++_}
-use lib.ListN.{length, drop, replicate}
+use mathlib.Core.List.{List, [], _∷_}
+use lib.ListN.{length, replicate}
 use Rattle.larq.specs.Channel.{window}
 use Rattle.larq.specs.Answer.{Change, same, holds, freed, Outcome}
 use Rattle.larq.specs.Events.{Act}
 use Rattle.larq.specs.Table.{Key, Lent, Event, one}
-use Rattle.channel.specs.Place.{recordOf, placeSized}
+use Rattle.record.specs.Place.{recordOf, placeSized}
+use Rattle.record.specs.Buffers.{Wrote}
 use Rattle.channel.specs.declared.Answer.{Answer}
-
--- a list stands at the front of a buffer, whose further entries are as they were, and its length is the count
-pub record Wrote (list before after : List ℕ) (given : ℕ) : Type 0 where
-  pub count : given ≡ length list
-  pub buffer : after ≡ list ++ drop (length list) before
 
 -- the three answer buffers
 pub record Buffers : Type 0 where

@@ -1,5 +1,3 @@
-pub mod Place
 pub mod Call
 pub mod Slots
 pub mod Steps
-pub mod Judge

@@ -1,23 +1,25 @@
 -- What the functions inside the crate ask for and promise.
-use Prim.Native.Nat.{ℕ, _+_, _-_, _≤_, _<_, _%_}
+use Prim.Native.Nat.{ℕ, _+_, _≤_, _<_, _%_}
 use mathlib.Core.Path.{_≡_}
 use mathlib.Core.Bool.{cond}
 use mathlib.Core.List.{List, [], _∷_}
 use lib.ListN.{length, getD, set}
-use Rattle.ring.specs.Ring.{forward, steps}
+use Rattle.wire.specs.Refusals.{Refusal}
+use Rattle.ring.specs.Ring.{steps}
 use Rattle.larq.specs.Channel.{Cell, waits, Channel}
-use Rattle.larq.specs.Settling.{Walked, walk}
+use Rattle.larq.specs.Settling.{Walked}
 use Rattle.larq.specs.Channel as channel
 use Rattle.larq.specs.Answer.{Outcome, refused}
 use Rattle.larq.specs.Events.{moved, filling, filled, data-on, reminder-on, sideOf}
-use Rattle.larq.specs.Table.{notFar}
-use Rattle.channel.specs.Place.{window, cellAt, spanOf, recordWith, recordOf}
-use Rattle.channel.specs.Slots.{earlier, Laid}
-use Rattle.channel.specs.Call.{Parts}
+use Rattle.larq.specs.Table.{Lent, notFar}
+use Rattle.record.specs.Place.{recordOf}
+use Rattle.record.specs.Buffers.{Laid}
+use Rattle.record.specs.Moving.{recordIn, spanIn}
+use Rattle.record.specs.Judge.{lentOf, common}
+use Rattle.record.specs.declared.Record.{Record}
+use Rattle.record.specs.Walk.{walkFrom}
+use Rattle.channel.specs.Call.{Parts, Buffers}
 use Rattle.channel.specs.declared.Answer.{Answer}
-use Rattle.channel.specs.declared.record.Record.{Record}
-use Rattle.channel.specs.declared.record.Grown.{Grown}
-use Rattle.channel.specs.declared.window.Settled.{Settled}
 use Rattle.channel.specs.declared.act.Counts.{Counts}
 use Rattle.channel.specs.declared.act.Last.{Last}
 use Rattle.channel.specs.declared.act.Last.the-variants.{Waits, Missing}
@@ -28,14 +30,6 @@ pub record Sized (w h k : List ℕ) : Type 0 where
   pub handles : length h ≡ 32
   pub marks : length k ≡ 32
 
--- the record of a place whose C, M and latest time are at hand
-abbrev pub recordIn : Record → List ℕ → List ℕ → List ℕ → Channel ℕ
-recordIn r words handles marks = recordWith (r .current .0) (r .oldest .0) (r .latest) words handles marks
-
--- its span
-abbrev pub spanIn : Record → ℕ
-spanIn r = spanOf (r .current .0) (r .oldest .0)
-
 -- what an event that is not refused finds: the record that the place holds, not broken. The times of missing numbers need not be told here
 pub record Ready (r : Record) (w h k : List ℕ) : Type 0 where
   pub sized : Sized w h k
@@ -45,21 +39,25 @@ pub record Ready (r : Record) (w h k : List ℕ) : Type 0 where
   pub narrow : spanIn r ≤ 32
   pub head : 0 < spanIn r → getD k (r .oldest .0 % 32) 0 ≡ 0
 
+-- what is lent for a call, and the tests that every event has, of its parts and buffers
+abbrev pub lentAt : Parts → Buffers → Lent
+lentAt p b =
+    lentOf (length (p .words)) (length (p .handles)) (length (p .marks)) (length (b .up)) (length (b .returned)) (length (b .nack))
+
+abbrev pub testsAt : Parts → Buffers → ℕ → ℕ → List Refusal
+testsAt p b s time = common (lentAt p b) s time (recordOf (p .words) [] (p .marks))
+
 -- a place's words with C, M and the latest time put anew
 abbrev pub headed : List ℕ → ℕ → ℕ → ℕ → List ℕ
 headed words c m t = set (set (set words 0 c) 1 m) 2 t
 
 -- M's walk over the window of a record
 abbrev pub walkOf : Record → ℕ → List ℕ → List ℕ → List ℕ → Walked ℕ
-walkOf r until words handles marks =
-    walk (earlier until) (r .oldest .0) (window (cellAt words handles marks) (r .oldest .0) (spanIn r))
+walkOf r until words handles marks = walkFrom until words handles marks (r .oldest .0) (spanIn r)
 
-pub record Settles (r : Record) (until : ℕ) (words handles marks : List ℕ) (at : ℕ) (before after : List ℕ) (s : Settled) : Type 0 where
-  pub up : Laid (walkOf r until words handles marks .up) at before after (s .up)
-  pub lost : s .lost ≡ walkOf r until words handles marks .lost
-  pub oldest : s .kept .oldest .0 ≡ walkOf r until words handles marks .oldest
-  pub current : s .kept .current .0 ≡ r .current .0
-  pub latest : s .kept .latest ≡ r .latest
+-- how many numbers M passes on it: they are handed up or given up
+abbrev pub passedOf : Record → ℕ → List ℕ → List ℕ → List ℕ → ℕ
+passedOf r until words handles marks = length (walkOf r until words handles marks .up) + walkOf r until words handles marks .lost
 
 -- nothing has been answered yet
 abbrev pub nothing : Counts
@@ -75,16 +73,6 @@ pub record Finished (r : Record) (until : ℕ) (p : Parts) (had : Counts) (befor
   pub nack : k .nack ≡ had .nack
   pub lost : k .lost ≡ had .lost + walkOf r until (p .words) (p .handles) (p .marks) .lost
   pub became : recordOf w (p .handles) (p .marks) ≡ moved (r .current .0) (r .latest) (walkOf r until (p .words) (p .handles) (p .marks))
-
--- a step ahead to s, by which so many numbers become missing: the window when M has passed what is then too much
-pub record IsGrown (r : Record) (s made time : ℕ) (g : Grown) : Type 0 where
-  pub over : g .over ≡ spanIn r + steps (r .current .0) s - 32
-  pub old : g .old ≡ g .over - (g .over - spanIn r)
-  pub first : g .first .0 ≡ forward (r .current .0) (1 + (g .over - spanIn r))
-  pub count : g .count ≡ made - (g .over - spanIn r)
-  pub current : g .kept .current .0 ≡ s
-  pub oldest : g .kept .oldest .0 ≡ forward (r .oldest .0) (g .over)
-  pub latest : g .kept .latest ≡ time
 
 -- how the last number of a step ahead comes
 abbrev pub cellsOf : Last → List (Cell ℕ)

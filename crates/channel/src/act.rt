@@ -8,14 +8,15 @@ ghost use Rattle.larq.specs.Channel.{window};
 ghost use Rattle.larq.specs.Events.{ahead, restarted, close-on};
 ghost use Rattle.larq.specs.Settling.{hold};
 ghost use Rattle.channel.specs.Call.{Did, Says, parts, buffers};
-ghost use Rattle.channel.specs.Steps.{Sized, Ready, recordIn, walkOf, Finished, answerOf, cellsOf, handlesWith, marksWith, IsAhead, filledAt, headed};
-ghost use Rattle.channel.specs.Judge.{MissingAt};
+ghost use Rattle.record.specs.Moving.{recordIn};
+ghost use Rattle.channel.specs.Steps.{Sized, Ready, passedOf, Finished, answerOf, cellsOf, handlesWith, marksWith, IsAhead, filledAt, headed};
+ghost use Rattle.record.specs.Judge.{MissingAt};
 use crate::Answer;
-use crate::record::Record;
 use crate::window::hand;
 use crate::window::miss;
-use crate::window::slot;
 use larq::HOLD;
+use record::Record;
+use record::slot;
 use ring::Seq;
 use zeros::zero_u8;
 use zeros::zero_u32;
@@ -71,6 +72,18 @@ fn bring(handles: &mut [u32], marks: &mut [u8], s: Seq, last: Last)
     }
 }
 
+// The record's three words are laid down in the place.
+fn stored(r: Record, words: &mut [u64])
+    requires { ⌜ 2 < length (now words) ⌝ }
+    ensures { λ _. ⌜ now (words .exit) ≡ headed (now (words .entry)) (r .current .0) (r .oldest .0) (r .latest) ⌝ }
+{
+    let c = r.current;
+    let m = r.oldest;
+    words[0] = c.0 as u64;
+    words[1] = m.0 as u64;
+    words[2] = r.latest;
+}
+
 // M settles and the record is laid down. What goes up follows what went up before in this call, and what is given up is counted with it.
 pub(crate) fn settle(
     r: Record,
@@ -82,15 +95,15 @@ pub(crate) fn settle(
     until: u64,
 ) -> Counts
     requires { ⌜ Sized (now words) (now handles) (now marks) ⌝ }
-    requires { ⌜ (r .oldest .0 < 4096) × (had .lost ≤ 4096) × (had .up + length (walkOf r until (now words) (now handles) (now marks) .up) ≤ length (now up)) ⌝ }
+    requires { ⌜ (r .oldest .0 < 4096) × (had .lost ≤ 4096) × (had .up + passedOf r until (now words) (now handles) (now marks) ≤ length (now up)) ⌝ }
     ensures { λ k. ⌜ Finished r until (parts (now (words .entry)) (now (handles .entry)) (now (marks .entry))) had (now (up .entry)) (now (words .exit)) (now (up .exit)) k ⌝ }
 {
     let at = had.up;
     let done = r.settled(words, handles, marks, up, at, until);
     let kept = done.kept;
-    kept.stored(words);
+    stored(kept, words);
     Counts {
-        up: done.up,
+        up: had.up + done.up,
         nack: had.nack,
         lost: had.lost + done.lost,
     }
@@ -161,7 +174,7 @@ pub(crate) fn handed_up(words: &mut [u64], up: &mut [u32], s: Seq, handle: u32, 
     ensures { λ a. ⌜ (now (words .exit) ≡ headed (now (words .entry)) (s .0) (next (s .0)) time) × (now (up .exit) ≡ set (now (up .entry)) 0 handle) × Says 0 1 0 0 0 a ⌝ }
 {
     up[0] = handle;
-    Record::opened(s, time).stored(words);
+    stored(Record::opened(s, time), words);
     Answer {
         number: 0,
         up: 1,

@@ -4,11 +4,10 @@ ghost use mathlib.Core.List.{[]};
 ghost use lib.ListN.{length};
 ghost use Rattle.larq.specs.Events.{frame, reminder, tick, close};
 ghost use Rattle.channel.specs.Call.{Says, Did, Called, parts, buffers};
-ghost use Rattle.channel.specs.Steps.{Ready, recordIn, dataAt, reminderAt};
+ghost use Rattle.record.specs.Moving.{recordIn};
+ghost use Rattle.channel.specs.Steps.{Ready, dataAt, reminderAt};
 
 mod act;
-mod judge;
-mod record;
 mod window;
 
 use crate::act::Counts;
@@ -22,11 +21,10 @@ use crate::act::restarted;
 use crate::act::sent_back;
 use crate::act::settle;
 use crate::act::stale_before;
-use crate::judge::Judged;
-use crate::judge::Spot;
-use crate::judge::judge;
-use crate::record::Record;
-pub use judge::is_sound;
+use record::Judged;
+use record::Record;
+use record::Spot;
+use record::judge;
 use ring::Seq;
 use ring::Side;
 

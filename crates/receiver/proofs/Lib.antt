@@ -1,8 +1,2 @@
-pub mod Ruled
-pub mod Keyed
-pub mod Promised
-pub mod Known
-pub mod Opening
-pub mod Events
 pub mod Unique
 pub mod Running

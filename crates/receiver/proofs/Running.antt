@@ -11,12 +11,13 @@ use Rattle.larq.specs.Channel.{window}
 use Rattle.larq.specs.Table.{Table, Event, outcome}
 use Rattle.larq.specs.Run.{empty, run, answers}
 use Rattle.larq.proofs.Sound.{Tidy, sound-from-empty}
-use Rattle.channel.specs.Call.{Buffers, Wrote, Answered}
+use Rattle.record.specs.Buffers.{Wrote}
+use Rattle.channel.specs.Call.{Buffers, Answered}
 use Rattle.channel.specs.declared.Answer.{Answer}
 use Rattle.table.specs.Table.{Slices, tableOf}
 use Rattle.table.specs.Emptied.{allZeros}
 use Rattle.table.proofs.Zeroing.{emptied}
-use Rattle.receiver.specs.Calls.{heard, Calls, none, call}
+use Rattle.arrivals.specs.Calls.{heard, Calls, none, call}
 
 front : (list before after : List ℕ) (n : ℕ) → Wrote list before after n → take n after ≡ list
 front list before after n w = ap₂ take (w .count) (w .buffer) ∙ take-at list (drop (length list) before) (length list) refl

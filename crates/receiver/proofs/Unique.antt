@@ -11,7 +11,7 @@ use Rattle.table.specs.Addressed.{addressed}
 use Rattle.table.specs.First.{places}
 use Rattle.table.specs.Table.{Slices, atPlace, tableOf}
 use Rattle.table.specs.declared.lookup.Found.the-variants.{At}
-use Rattle.receiver.specs.Event.{Did}
+use Rattle.arrivals.specs.Event.{Did}
 
 same-answers : (o : Outcome ℕ) (b x y : Buffers) (r q : Answer) → Answered o b x r → Answered o b y q → r ≡ q
 same-answers o b x y r q f g =

@@ -1,47 +1,11 @@
-// What the receiver itself writes: a channel just opened, and the key of a place that is free again (document 01, 'The channel table').
+// What a close itself writes: the key of a place that is free again (document 01, 'The channel table').
 ghost use mathlib.Core.Path.{_≡_};
 ghost use mathlib.Core.Bool.{cond};
-ghost use Prim.Native.Nat.{_≤_, _<_};
+ghost use Prim.Native.Nat.{_<_};
 ghost use lib.ListN.{length};
 ghost use lib.Dec.{eqb};
-ghost use Rattle.receiver.specs.Writes.{keyed, Opens};
-use channel::Answer;
-use ring::Seq;
+ghost use Rattle.arrivals.specs.Writes.{keyed};
 use table::KEY_WORDS;
-use table::WORDS;
-
-// Opens a channel at the free place i, with C = number and M the next: nothing is missing, so what the slots hold does not count.
-pub(crate) fn open_at(
-    keys: &mut [u64],
-    words: &mut [u64],
-    up: &mut [u32],
-    i: usize,
-    first: u64,
-    second: u64,
-    number: u16,
-    handle: u32,
-    time: u64,
-) -> Answer
-    requires { ⌜ (length (now keys) ≡ 128) × (length (now words) ≡ 2240) × (32 ≤ length (now up)) × (i < 64) ⌝ }
-    ensures { λ r. ⌜ Opens i first second number handle time
-        (now (keys .entry)) (now (words .entry)) (now (up .entry))
-        (now (keys .exit)) (now (words .exit)) (now (up .exit)) r ⌝ }
-{
-    let oldest = Seq(number).forward(1);
-    keys[KEY_WORDS * i] = first;
-    keys[KEY_WORDS * i + 1] = second;
-    words[WORDS * i] = number as u64;
-    words[WORDS * i + 1] = oldest.0 as u64;
-    words[WORDS * i + 2] = time;
-    up[0] = handle;
-    Answer {
-        number: 0,
-        up: 1,
-        returned: 0,
-        nack: 0,
-        lost: 0,
-    }
-}
 
 // The key of place i is zeros where a close was accepted.
 pub(crate) fn free_key(keys: &mut [u64], i: usize, number: u8)

@@ -9,13 +9,13 @@ use lib.Seq.{sets}
 use Rattle.ring.specs.Ring.{forward, steps}
 use Rattle.larq.specs.Channel.{window, sound}
 use Rattle.larq.proofs.Sound.{Sound, sound-is}
-use Rattle.channel.specs.Place.{cellAt, spanOf, recordWith, recordOf, soundAt}
-use Rattle.channel.specs.Place as place
-use Rattle.channel.specs.Slots.{Laid}
-use Rattle.channel.proofs.Laying.{wrote-front}
-use Rattle.channel.proofs.Calling.{sound-handles}
-use Rattle.channel.proofs.Sounds.{sound-by-sizes}
-use Rattle.channel.proofs.Windows.{length-window}
+use Rattle.record.specs.Place.{cellAt, spanOf, recordWith, recordOf, soundAt}
+use Rattle.record.specs.Place as place
+use Rattle.record.specs.Buffers.{Laid}
+use Rattle.record.proofs.Laying.{wrote-front}
+use Rattle.record.proofs.Sounds.{sound-handles}
+use Rattle.record.proofs.Sounds.{sound-by-sizes}
+use Rattle.record.proofs.Windows.{length-window}
 use Rattle.table.specs.Look.{shownAt, cellMark, cellValue, Looked}
 use Rattle.table.specs.declared.looking.View.{View}
 

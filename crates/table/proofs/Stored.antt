@@ -9,7 +9,7 @@ use lib.ListN.{getD}
 use lib.Dec.{eqb}
 use Rattle.larq.specs.Channel.{Channel}
 use Rattle.larq.specs.Table.{Key, sameKey, Place, free, held}
-use Rattle.channel.specs.Place.{recordOf}
+use Rattle.record.specs.Place.{recordOf}
 use Rattle.table.specs.First.{firstPlace, stores, storesNone, places}
 use Rattle.table.specs.Key.{firstWord, storedKey}
 use Rattle.table.specs.Table.{Slices, slices, part, placeOf, placeAt, zeros}

@@ -10,9 +10,9 @@ use lib.ListN.{length, getD, set, length-set}
 use lib.Seq.{sets}
 use Rattle.ring.specs.Ring.{next}
 use Rattle.larq.specs.Channel.{Cell, waits, missing}
-use Rattle.channel.specs.Place.{window, cellAt}
-use Rattle.channel.proofs.Laying.{sets-more}
-use Rattle.channel.proofs.Windows.{window-none, window-suc}
+use Rattle.record.specs.Place.{window, cellAt}
+use Rattle.record.proofs.Laying.{sets-more}
+use Rattle.record.proofs.Windows.{window-none, window-suc}
 use Rattle.table.specs.Look.{cellMark}
 
 -- one buffer, which takes a number for each cell

@@ -10,7 +10,7 @@ use lib.Dec.{leb}
 use lib.ListN.{length}
 use Rattle.larq.specs.Channel.{window}
 use Rattle.larq.specs.Table.{Key, Lent, lentEnough, priorityFits, channels}
-use Rattle.channel.specs.Place.{recordOf}
+use Rattle.record.specs.Place.{recordOf}
 use Rattle.table.specs.First.{places, stores}
 use Rattle.table.specs.Key.{firstWord}
 use Rattle.table.specs.Table.{Slices, slices, part, placeAt, tableOf}

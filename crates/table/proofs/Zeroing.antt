@@ -9,7 +9,7 @@ use lib.ListN.{length, set, take, drop, replicate, length-set}
 use lib.Seq.{drop-length}
 use Rattle.larq.specs.Table.{free, Table}
 use Rattle.larq.specs.Run.{empty}
-use Rattle.channel.proofs.Appending.{drop-replicate}
+use Rattle.record.proofs.Appending.{drop-replicate}
 use Rattle.table.specs.First.{places}
 use Rattle.table.specs.Table.{Slices, slices, part, placeOf, placeAt, placesFrom, tableOf}
 use Rattle.table.specs.Emptied.{wholeSlices, allZeros, Emptied}

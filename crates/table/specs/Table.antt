@@ -6,7 +6,7 @@ use mathlib.Core.List.{List, [], _∷_}
 use lib.ListN.{getD, take, drop, replicate}
 use lib.Dec.{eqb}
 use Rattle.larq.specs.Table.{Place, free, held, Table}
-use Rattle.channel.specs.Place.{recordOf}
+use Rattle.record.specs.Place.{recordOf}
 use Rattle.table.specs.Key.{storedKey}
 use Rattle.table.specs.First.{places}
 

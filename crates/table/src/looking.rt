@@ -5,8 +5,8 @@ ghost use mathlib.Core.List.{[], map};
 ghost use lib.ListN.{length};
 ghost use lib.Seq.{sets};
 ghost use Rattle.larq.specs.Channel.{window};
-ghost use Rattle.channel.specs.Place as place;
-ghost use Rattle.channel.specs.Place.{cellAt, recordOf};
+ghost use Rattle.record.specs.Place as place;
+ghost use Rattle.record.specs.Place.{cellAt, recordOf};
 ghost use Rattle.table.specs.Key.{keyOf};
 ghost use Rattle.table.specs.Table.{slices, tableOf};
 ghost use Rattle.table.specs.Look.{shownAt, shownOf, lentFor, cellMark, cellValue, Looked};
@@ -101,7 +101,7 @@ fn look_at(
     ensures { λ r. ⌜ Looked (shownAt (recordOf (now (words .entry)) (now (handles .entry)) (now (marks .entry))))
         (now (waits .entry)) (now (waits .exit)) (now (values .entry)) (now (values .exit)) r ⌝ }
 {
-    if !channel::is_sound(words, marks) {
+    if !record::is_sound(words, marks) {
         return refuses(6);
     }
     let current = words[0] as u16;

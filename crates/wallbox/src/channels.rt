@@ -7,7 +7,7 @@ ghost use Rattle.table.specs.Emptied.{Emptied};
 ghost use Rattle.table.specs.Key.{keyOf};
 ghost use Rattle.table.specs.Look.{shownOf, lentFor, Looked};
 ghost use Rattle.table.specs.Table.{slices, tableOf};
-ghost use Rattle.receiver.specs.Event.{Call};
+ghost use Rattle.arrivals.specs.Event.{Call};
 use channel::Answer;
 use table::View;
 

@@ -1,9 +1,9 @@
 -- `arrive` meets its contract: by where the number lies (Frames).
 use mathlib.Core.Path.{_≡_, subst}
 use native.Mathlib.Omega.{arith}
-use Rattle.channel.specs.Judge.{LiesAt}
-use Rattle.channel.specs.declared.judge.Spot.{Spot}
-use Rattle.channel.specs.declared.judge.Spot.the-variants.{Next, Missing, Known, Far}
+use Rattle.record.specs.Judge.{LiesAt}
+use Rattle.record.specs.declared.judging.Spot.{Spot}
+use Rattle.record.specs.declared.judging.Spot.the-variants.{Next, Missing, Known, Far}
 use Rattle.channel.proofs.Opening.{ahead-some, ahead-frame}
 use Rattle.channel.proofs.Frames.{frame-next, frame-ahead, frame-missing, frame-known, frame-far}
 use borrow.Author.Needs.{needs}
@@ -16,7 +16,7 @@ use Rattle.channel.proofs.act.filled.Reads as filled-reads
 use Rattle.channel.proofs.act.handed_up.Reads as handed-up-reads
 use Rattle.channel.proofs.act.restarted.Reads as restarted-reads
 use Rattle.channel.proofs.act.sent_back.Reads as sent-back-reads
-use Rattle.channel.proofs.record.Record.spot.Reads as spot-reads
+use Rattle.record.proofs.Record.spot.Reads as spot-reads
 
 -- from where the number was looked up back to the entry
 abbrev at-entry : tie.After-spot → tie.Start

@@ -11,7 +11,7 @@ use Rattle.channel.proofs.close.Tie as tie
 use Rattle.channel.proofs.close.Reads as reads
 use Rattle.channel.proofs.close.Lts as lts
 use Rattle.channel.proofs.act.closed.Reads as closed-reads
-use Rattle.channel.proofs.judge.judge.Reads as judge-reads
+use Rattle.record.proofs.judge.Reads as judge-reads
 use Rattle.channel.proofs.refused.Reads as refused-reads
 
 -- what the call was lent

@@ -10,7 +10,7 @@ use Rattle.channel.proofs.reminder.Statement.{statement}
 use Rattle.channel.proofs.reminder.Tie as tie
 use Rattle.channel.proofs.reminder.Reads as reads
 use Rattle.channel.proofs.reminder.Lts as lts
-use Rattle.channel.proofs.judge.judge.Reads as judge-reads
+use Rattle.record.proofs.judge.Reads as judge-reads
 use Rattle.channel.proofs.refused.Reads as refused-reads
 use Rattle.channel.proofs.remind.Reads as remind-reads
 

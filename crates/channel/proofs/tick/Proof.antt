@@ -13,8 +13,8 @@ use Rattle.channel.proofs.tick.Reads as reads
 use Rattle.channel.proofs.tick.Lts as lts
 use Rattle.channel.proofs.act.settle.Reads as settle-reads
 use Rattle.channel.proofs.act.stale_before.Reads as stale-before-reads
-use Rattle.channel.proofs.judge.judge.Reads as judge-reads
-use Rattle.channel.proofs.record.Record.arrived.Reads as arrived-reads
+use Rattle.record.proofs.judge.Reads as judge-reads
+use Rattle.record.proofs.Record.arrived.Reads as arrived-reads
 use Rattle.channel.proofs.refused.Reads as refused-reads
 
 -- what the call was lent

@@ -6,7 +6,7 @@ use borrow.Author.Needs.{needs}
 use denote.Ref.{now}
 use Rattle.larq.specs.Events.{close}
 use Rattle.channel.specs.Call.{parts, buffers}
-use Rattle.receiver.proofs.Events.{Told, Goes, goes, closed-did, turned-did}
+use Rattle.arrivals.proofs.Events.{Told, Goes, goes, closed-did, turned-did}
 use Rattle.receiver.proofs.close.Statement.{statement}
 use Rattle.receiver.proofs.close.Tie as tie
 

@@ -5,7 +5,7 @@ use borrow.Author.Needs.{needs}
 use denote.Ref.{now}
 use Rattle.larq.specs.Events.{tick}
 use Rattle.channel.specs.Call.{parts, buffers}
-use Rattle.receiver.proofs.Events.{Told, Goes, goes, kept-did, turned-did}
+use Rattle.arrivals.proofs.Events.{Told, Goes, goes, kept-did, turned-did}
 use Rattle.receiver.proofs.tick.Statement.{statement}
 use Rattle.receiver.proofs.tick.Tie as tie
 

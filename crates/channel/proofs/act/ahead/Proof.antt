@@ -1,7 +1,7 @@
 -- `ahead` meets its contract: what each call leaves is handed to the laws of the step ahead (StepAhead).
 use mathlib.Core.Path.{refl, _∙_}
 use native.Mathlib.Omega.{arith}
-use Rattle.channel.proofs.Laying.{laid-length}
+use Rattle.record.proofs.Laying.{laid-length}
 use Rattle.channel.proofs.StepAhead.{handed-room, handed-few, count-room, settle-sized, settle-room, ahead-did}
 use borrow.Author.Needs.{needs}
 use Rattle.channel.proofs.act.ahead.Statement.{statement}
@@ -10,7 +10,7 @@ use Rattle.channel.proofs.act.ahead.Reads as reads
 use Rattle.channel.proofs.act.ahead.Lts as lts
 use Rattle.channel.proofs.act.bring.Reads as bring-reads
 use Rattle.channel.proofs.act.settle.Reads as settle-reads
-use Rattle.channel.proofs.record.Record.grown.Reads as grown-reads
+use Rattle.record.proofs.Record.grown.Reads as grown-reads
 use Rattle.channel.proofs.window.hand.Reads as hand-reads
 use Rattle.channel.proofs.window.miss.Reads as miss-reads
 

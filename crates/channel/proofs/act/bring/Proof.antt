@@ -7,7 +7,7 @@ use Rattle.channel.proofs.act.bring.Statement.{statement}
 use Rattle.channel.proofs.act.bring.Tie as tie
 use Rattle.channel.proofs.act.bring.Reads as reads
 use Rattle.channel.proofs.act.bring.Lts as lts
-use Rattle.channel.proofs.window.slot.Reads as slot-reads
+use Rattle.record.proofs.slot.Reads as slot-reads
 
 enum-known-last : tie.Need-enum-known-last
 enum-known-last c = search needs

@@ -5,7 +5,7 @@ use Rattle.channel.proofs.act.closed.Statement.{statement}
 use Rattle.channel.proofs.act.closed.Tie as tie
 use Rattle.channel.proofs.act.closed.Reads as reads
 use Rattle.channel.proofs.act.closed.Lts as lts
-use Rattle.channel.proofs.record.Record.span.Reads as span-reads
+use Rattle.record.proofs.Record.span.Reads as span-reads
 use Rattle.channel.proofs.window.hand.Reads as hand-reads
 
 span-requires : tie.Need-span-requires

@@ -8,7 +8,7 @@ use Rattle.channel.proofs.act.filled.Reads as reads
 use Rattle.channel.proofs.act.filled.Lts as lts
 use Rattle.channel.proofs.act.bring.Reads as bring-reads
 use Rattle.channel.proofs.act.settle.Reads as settle-reads
-use Rattle.channel.proofs.record.Record.arrived.Reads as arrived-reads
+use Rattle.record.proofs.Record.arrived.Reads as arrived-reads
 
 bring-requires : tie.Need-bring-requires
 bring-requires c κs = search needs

@@ -5,8 +5,8 @@ use Rattle.channel.proofs.act.handed_up.Statement.{statement}
 use Rattle.channel.proofs.act.handed_up.Tie as tie
 use Rattle.channel.proofs.act.handed_up.Reads as reads
 use Rattle.channel.proofs.act.handed_up.Lts as lts
-use Rattle.channel.proofs.record.Record.opened.Reads as opened-reads
-use Rattle.channel.proofs.record.Record.stored.Reads as stored-reads
+use Rattle.record.proofs.Record.opened.Reads as opened-reads
+use Rattle.channel.proofs.act.stored.Reads as stored-reads
 
 slice-write-up : tie.Need-slice-write-up
 slice-write-up c = search needs

@@ -10,7 +10,7 @@ use Rattle.channel.proofs.window.hand.Statement.{statement}
 use Rattle.channel.proofs.window.hand.Tie as tie
 use Rattle.channel.proofs.window.hand.Reads as reads
 use Rattle.channel.proofs.window.hand.Lts as lts
-use Rattle.channel.proofs.window.slot.Reads as slot-reads
+use Rattle.record.proofs.slot.Reads as slot-reads
 use Rattle.ring.proofs.Seq.forward.Reads as forward-reads
 
 abbrev Inv-loop : tie.InvT-loop

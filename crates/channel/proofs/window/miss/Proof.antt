@@ -7,7 +7,7 @@ use Rattle.channel.proofs.window.miss.Statement.{statement}
 use Rattle.channel.proofs.window.miss.Tie as tie
 use Rattle.channel.proofs.window.miss.Reads as reads
 use Rattle.channel.proofs.window.miss.Lts as lts
-use Rattle.channel.proofs.window.slot.Reads as slot-reads
+use Rattle.record.proofs.slot.Reads as slot-reads
 use Rattle.ring.proofs.Seq.forward.Reads as forward-reads
 
 abbrev Inv-loop : tie.InvT-loop

@@ -5,7 +5,7 @@ use native.Mathlib.Omega.{arith}
 use borrow.Author.Tests.{not-true, not-false}
 use denote.Ref.{now}
 use lib.ListN.{getD}
-use Rattle.channel.specs.Place.{spanOf, soundAt}
+use Rattle.record.specs.Place.{spanOf, soundAt}
 use Rattle.table.proofs.Showing.{broken-looked, Fits, fits, span-is, looked}
 use borrow.Author.Needs.{needs}
 use Rattle.table.proofs.looking.look_at.Statement.{statement}

@@ -3,7 +3,7 @@ use Prim.Native.Nat.{_%_}
 use mathlib.Core.Path.{refl, _∙_}
 use borrow.Author.Needs.{needs}
 use denote.Ref.{now}
-use Rattle.channel.specs.Place.{cellAt}
+use Rattle.record.specs.Place.{cellAt}
 use Rattle.table.specs.Look.{cellMark, cellValue}
 use Rattle.table.proofs.Telling.{Tells, tells-start, tells-more, tells-end, mark-alone}
 use Rattle.table.proofs.looking.tell.Statement.{statement}

@@ -1,0 +1,10 @@
+pub mod Rounds
+pub mod Windows
+pub mod Ordering
+pub mod Sounds
+pub mod Refusing
+pub mod Spots
+pub mod Appending
+pub mod Laying
+pub mod Walks
+pub mod Settling

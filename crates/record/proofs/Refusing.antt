@@ -1,0 +1,83 @@
+-- The numbers in their order: which number the code gives is the first of the rules' tests that fails. Document 01, 'Numbers the box may
+-- answer with'. Assumes nothing.
+use Prim.Native.Nat.{ℕ, _≤_, _<_}
+use mathlib.Core.Path.{_≡_, refl, ap, sym, _∙_}
+use mathlib.Core.Bool.{Bool, true, false, cond, _&&_}
+use mathlib.Core.List.{List, [], _∷_}
+use native.Mathlib.Omega.{arith}
+use lib.Dec.{eqb, leb}
+use lib.ListN.{length, getD}
+use borrow.Author.Tests.{le-leb, lt-leb, eqb-true, leb-true}
+use Rattle.wire.specs.Refusals.{Refusal, first}
+use Rattle.larq.specs.Channel.{window, sound}
+use Rattle.larq.specs.Table.{Lent, lentEnough}
+use Rattle.record.specs.Place.{recordWith, recordOf, soundAt, placeSized}
+use Rattle.record.specs.Judge.{lentOf, common, RefusedBy, OpenAt}
+use Rattle.record.specs.declared.Record.{Record}
+use Rattle.record.proofs.Sounds.{and-left, and-right, sizes-of, sound-by-sizes, sound-ring-of}
+
+-- what number 1 asks
+pub record Enough (words handles marks up returned nack : ℕ) : Type 0 where
+  pub up-room : 32 ≤ up
+  pub returned-room : 32 ≤ returned
+  pub nack-room : 32 ≤ nack
+  pub words-sized : words ≡ 35
+  pub handles-sized : handles ≡ 32
+  pub marks-sized : marks ≡ 32
+
+pub enough-of : (words handles marks up returned nack : ℕ) → lentEnough window (lentOf words handles marks up returned nack) ≡ true
+    → Enough words handles marks up returned nack
+enough-of words handles marks up returned nack e =
+    let rooms = and-left (leb 32 up && (leb 32 returned && leb 32 nack)) _ e in
+    let sizes = and-right (leb 32 up && (leb 32 returned && leb 32 nack)) _ e in
+    let rooms′ = and-right (leb 32 up) _ rooms in
+    let sizes′ = and-right (eqb words 35) _ sizes in
+    record {
+      up-room = leb-true 32 up (and-left (leb 32 up) _ rooms);
+      returned-room = leb-true 32 returned (and-left (leb 32 returned) _ rooms′);
+      nack-room = leb-true 32 nack (and-right (leb 32 returned) _ rooms′);
+      words-sized = eqb-true words 35 (and-left (eqb words 35) _ sizes);
+      handles-sized = eqb-true handles 32 (and-left (eqb handles 32) _ sizes′);
+      marks-sized = eqb-true marks 32 (and-right (eqb handles 32) _ sizes′);
+    }
+
+module _ (words marks : List ℕ) (handles up returned nack s time : ℕ) where
+  abbrev lent : Lent
+  lent = lentOf (length words) handles (length marks) up returned nack
+
+  abbrev tests : List Refusal
+  tests = common lent s time (recordOf words [] marks)
+
+  pub refused-1 : lentEnough window lent ≡ false → RefusedBy tests 1
+  refused-1 e = record { is = rw e; some = omega arith }
+
+  module _ (enough : lentEnough window lent ≡ true) where
+    pub given : Enough (length words) handles (length marks) up returned nack
+    given = enough-of (length words) handles (length marks) up returned nack enough
+
+    pub refused-2 : 4096 ≤ s → RefusedBy tests 2
+    refused-2 l = record { is = rw (enough, lt-leb s 4095 l); some = omega arith }
+
+    module _ (in-ring : s < 4096) where
+      sound-is : soundAt words marks ≡ sound window (recordOf words [] marks)
+      sound-is = sound-by-sizes words marks (given .words-sized) (given .marks-sized)
+
+      pub refused-6 : soundAt words marks ≡ false → RefusedBy tests 6
+      refused-6 e = record { is = rw (enough, le-leb s 4095 (omega arith), sym sound-is ∙ e); some = omega arith }
+
+      module _ (whole : soundAt words marks ≡ true) where
+        pub refused-7 : time < getD words 2 0 → RefusedBy tests 7
+        unfolding recordWith
+        refused-7 l =
+            record { is = rw (enough, le-leb s 4095 (omega arith), sym sound-is ∙ whole, lt-leb (getD words 2 0) time l); some = omega arith }
+
+        pub opens : getD words 2 0 ≤ time → (r : Record) → r .current .0 ≡ getD words 0 0 → r .oldest .0 ≡ getD words 1 0
+            → r .latest ≡ getD words 2 0 → OpenAt tests words r
+        unfolding recordWith
+        opens l r ec eo el =
+            record {
+              none = rw (enough, le-leb s 4095 (omega arith), sym sound-is ∙ whole, le-leb (getD words 2 0) time l);
+              current = ec;
+              oldest = eo;
+              latest = el;
+            }

@@ -1,0 +1,183 @@
+-- The turns of the loop in which M moves on: what M's walk makes of the rest is what it made of the whole. Document 01, 'Settling' and 'Tick'.
+-- Assumes nothing.
+use Prim.Native.Nat.{ℕ, suc, _+_, _-_, _%_, _≤_, _<_}
+use mathlib.Core.Path.{_≡_, refl, ap, sym, _∙_}
+use mathlib.Core.Bool.{Bool, true, false, cond, _&&_}
+use mathlib.Core.List.{List, [], _∷_}
+use native.Mathlib.Omega.{arith}
+use native.Mathlib.Nat.{add-zero}
+use lib.ListN.{length, getD, set, length-set}
+use lib.Seq.{sets}
+use lib.Dec.{eqb}
+use borrow.Author.Tests.{lt-ltb, le-ltb, eq-eqb, eqb-true}
+use Rattle.ring.specs.Ring.{next}
+use Rattle.larq.specs.Channel.{Cell, missing}
+use Rattle.larq.specs.Settling.{Walked, walk, stays, handing, losing}
+use Rattle.record.specs.Place.{window, cellAt}
+use Rattle.record.specs.Walk.{earlier, walkFrom, Settles, most, settleNumbers}
+use Rattle.record.specs.Buffers.{Laid}
+use Rattle.record.specs.declared.Record.{Record}
+use Rattle.record.specs.declared.window.Settled.{Settled}
+use Rattle.record.proofs.Windows.{window-none, window-suc, cell-waits, cell-missing}
+use Rattle.record.proofs.Laying.{sets-more}
+use Rattle.record.proofs.Sounds.{and-left, and-right}
+use Rattle.record.proofs.Walks.{passes, walk-first}
+
+-- Over how many numbers M walks, by what the code finds.
+pub record Fits (w h k : List ℕ) (at left : ℕ) (up : List ℕ) : Type 0 where
+  pub words : length w ≡ 35
+  pub handles : length h ≡ 32
+  pub marks : length k ≡ 32
+  pub room : left ≤ length up - at
+
+module _ (w h k : List ℕ) (n at : ℕ) (up : List ℕ) where
+  abbrev whole : Bool
+  whole = eqb (length w) 35 && (eqb (length h) 32 && eqb (length k) 32)
+
+  fits-by : (b : Bool) → whole ≡ b → 0 < cond b (most n (length up - at)) 0 → Fits w h k at (cond b (most n (length up - at)) 0) up
+  fits-by true e p =
+      let rest = and-right (eqb (length w) 35) _ e in
+      record {
+        words = eqb-true _ _ (and-left (eqb (length w) 35) _ e);
+        handles = eqb-true _ _ (and-left (eqb (length h) 32) _ rest);
+        marks = eqb-true _ _ (and-right (eqb (length h) 32) _ rest);
+        room = omega arith;
+      }
+  fits-by false e p = absurd (let z : ⊥ = omega arith in z)
+
+  numbers-fit : 0 < settleNumbers w h k n at up → Fits w h k at (settleNumbers w h k n at up) up
+  numbers-fit = fits-by whole refl
+
+-- What the loop keeps: `gone` handles went up and `lost` numbers were given up so far.
+pub record Settles-on (until : ℕ) (w h k : List ℕ) (m n at : ℕ) (before up : List ℕ) (i left gone lost : ℕ) : Type 0 where
+  pub words-sized : 0 < left → length w ≡ 35
+  pub handles-sized : 0 < left → length h ≡ 32
+  pub marks-sized : 0 < left → length k ≡ 32
+  pub room : 0 < left → at + gone + left ≤ length up
+  pub sized : length up ≡ length before
+  pub few : gone + lost + left ≤ n
+  pub end : at + gone + length (walkFrom until w h k i left .up) ≡ at + length (walkFrom until w h k m n .up)
+  pub laid : sets up (at + gone) (walkFrom until w h k i left .up) ≡ sets before at (walkFrom until w h k m n .up)
+  pub lost-all : lost + walkFrom until w h k i left .lost ≡ walkFrom until w h k m n .lost
+  pub oldest : walkFrom until w h k i left .oldest ≡ walkFrom until w h k m n .oldest
+
+-- before the first turn
+pub settles-start : (until : ℕ) (w h k : List ℕ) (m n left at : ℕ) (up : List ℕ) → left ≡ settleNumbers w h k n at up
+    → Settles-on until w h k m left at up up m left 0 0
+settles-start until w h k m n left at up e =
+    let fits : 0 < left → Fits w h k at left up = λ p. rw (← e) at (numbers-fit w h k n at up (rw e at p)) in
+    record {
+      words-sized = λ p. fits p .words;
+      handles-sized = λ p. fits p .handles;
+      marks-sized = λ p. fits p .marks;
+      room = λ p. omega (arith, fits p .room);
+      sized = refl;
+      few = omega arith;
+      end = omega arith;
+      laid = ap (λ (i : ℕ). sets up i (walkFrom until w h k m left .up)) (add-zero at);
+      lost-all = omega arith;
+      oldest = refl;
+    }
+
+-- where M has come to rest
+pub record Rests (until : ℕ) (w h k : List ℕ) (m n at : ℕ) (before up : List ℕ) (i gone lost : ℕ) : Type 0 where
+  pub up-laid : Laid (walkFrom until w h k m n .up) at before up (at + gone)
+  pub lost-all : lost ≡ walkFrom until w h k m n .lost
+  pub oldest : i ≡ walkFrom until w h k m n .oldest
+
+-- the same of a record
+pub settles : {until : ℕ} {w h k : List ℕ} {n n′ at : ℕ} {before up : List ℕ} (r : Record) (s : Settled) → n ≡ n′
+    → Rests until w h k (r .oldest .0) n at before up (s .kept .oldest .0) (s .up) (s .lost)
+    → s .kept .current .0 ≡ r .current .0 → s .kept .latest ≡ r .latest → Settles r n′ until w h k at before up s
+settles r s e rest c t =
+    let z = rw e at rest in
+    record { up = z .up-laid; lost = z .lost-all; oldest = z .oldest; current = c; latest = t }
+
+-- the parts are those of a place, and there is room for all that M passes: it walks as over all n numbers
+pub settles-all : {r : Record} {n until : ℕ} {w h k : List ℕ} {at : ℕ} {before after : List ℕ} {s : Settled} → length w ≡ 35 → length h ≡ 32
+    → length k ≡ 32 → at + passes (walkFrom until w h k (r .oldest .0) n) ≤ length before
+    → Settles r (settleNumbers w h k n at before) until w h k at before after s → Settles r n until w h k at before after s
+settles-all {r} {n} {until} {w} {h} {k} {at} {before} a b c l x =
+    let e = walk-first until (cellAt w h k) (r .oldest .0) n (length before - at) (omega arith) in
+    let y = rw (eq-eqb (length w) 35 a, eq-eqb (length h) 32 b, eq-eqb (length k) 32 c) at x in
+    record {
+      up = rw (e .0) at (y .up);
+      lost = y .lost ∙ e .1;
+      oldest = y .oldest ∙ e .2;
+      current = y .current;
+      latest = y .latest;
+    }
+
+module _ {until : ℕ} {w h k : List ℕ} {m n at : ℕ} {before up : List ℕ} {i left gone lost : ℕ}
+    (keeps : Settles-on until w h k m n at before up i left gone lost) where
+  rests : (cs : List (Cell ℕ)) → walkFrom until w h k i left ≡ stays i cs → Rests until w h k m n at before up i gone lost
+  rests cs e =
+      record {
+        up-laid = record {
+          end-is = omega (arith, ap (λ v. length (v .up)) e, keeps .end);
+          buffer = sym (ap (λ v. sets up (at + gone) (v .up)) e) ∙ keeps .laid;
+        };
+        lost-all = omega (arith, ap (λ v. v .lost) e, keeps .lost-all);
+        oldest = sym (ap (λ v. v .oldest) e) ∙ keeps .oldest;
+      }
+
+  pub rests-none : left ≡ 0 → Rests until w h k m n at before up i gone lost
+  rests-none z = rests [] (ap (walk (earlier until) i) (window-none (cellAt w h k) i left z))
+
+  module _ {j : ℕ} (some : 0 < left) (at-slot : j ≡ i % 32) where
+    pub rests-missing : getD k j 0 ≡ 0 → until ≤ getD w (3 + j) 0 → Rests until w h k m n at before up i gone lost
+    rests-missing o l =
+        rests (missing (getD w (3 + i % 32) 0) ∷ window (cellAt w h k) (next i) (left - 1))
+        (ap (walk (earlier until) i) (window-suc (cellAt w h k) i left some)
+        ∙ rw (cell-missing w h k (i % 32) (rw at-slot at o), le-ltb (getD w (3 + i % 32) 0) until (rw at-slot at l)))
+
+    handed-first : (getD k j 0 ≡ 0 → ⊥) → walkFrom until w h k i left ≡ handing (getD h j 0) (walkFrom until w h k (next i) (left - 1))
+    handed-first o =
+        rw at-slot
+        (ap (walk (earlier until) i) (window-suc (cellAt w h k) i left some) ∙ rw (cell-waits w h k (i % 32) (rw at-slot at o)))
+
+    module _ {i′ : ℕ} (step : i′ ≡ next i) where
+      pub passes-waits : (getD k j 0 ≡ 0 → ⊥)
+          → Settles-on until w h k m n at before (set up (at + gone) (getD h j 0)) i′ (left - 1) (gone + 1) lost
+      passes-waits o =
+          let e = handed-first o in
+          let longer = ap (λ v. length (v .up)) e in
+          let on : at + (gone + 1) ≡ at + gone + 1 = omega arith in
+          rw step
+          (record {
+            words-sized = λ _. keeps .words-sized some;
+            handles-sized = λ _. keeps .handles-sized some;
+            marks-sized = λ _. keeps .marks-sized some;
+            room = λ _. simp length-set (omega (arith, keeps .room some));
+            sized = length-set up (at + gone) (getD h j 0) ∙ keeps .sized;
+            few = omega (arith, keeps .few);
+            end = omega (arith, longer, keeps .end);
+            laid =
+                ap (λ (x : ℕ). sets (set up (at + gone) (getD h j 0)) x (walkFrom until w h k (next i) (left - 1) .up)) on
+                ∙ sets-more up (at + gone) (getD h j 0) (walkFrom until w h k (next i) (left - 1) .up)
+                ∙ sym (ap (λ v. sets up (at + gone) (v .up)) e)
+                ∙ keeps .laid;
+            lost-all = omega (arith, ap (λ v. v .lost) e, keeps .lost-all);
+            oldest = sym (ap (λ v. v .oldest) e) ∙ keeps .oldest;
+          })
+
+      pub passes-missing : getD k j 0 ≡ 0 → getD w (3 + j) 0 < until
+          → Settles-on until w h k m n at before up i′ (left - 1) gone (lost + 1)
+      passes-missing o l =
+          let e : walkFrom until w h k i left ≡ losing (walkFrom until w h k i′ (left - 1)) =
+          rw step
+          (ap (walk (earlier until) i) (window-suc (cellAt w h k) i left some)
+          ∙ rw (cell-missing w h k (i % 32) (rw at-slot at o), lt-ltb (getD w (3 + i % 32) 0) until (rw at-slot at l))) in
+          let longer = ap (λ v. length (v .up)) e in
+          record {
+            words-sized = λ _. keeps .words-sized some;
+            handles-sized = λ _. keeps .handles-sized some;
+            marks-sized = λ _. keeps .marks-sized some;
+            room = λ _. omega (arith, keeps .room some);
+            sized = keeps .sized;
+            few = omega (arith, keeps .few);
+            end = omega (arith, longer, keeps .end);
+            laid = sym (ap (λ v. sets up (at + gone) (v .up)) e) ∙ keeps .laid;
+            lost-all = omega (arith, ap (λ v. v .lost) e, keeps .lost-all);
+            oldest = sym (ap (λ v. v .oldest) e) ∙ keeps .oldest;
+          }

@@ -1,0 +1,121 @@
+-- When the record of a place is not broken, by its parts: document 01, 'The channel table'. Assumes nothing.
+use Prim.Native.Nat.{ℕ, zero, suc, _+_, _-_, _%_, _≤_, _<_}
+use mathlib.Core.Path.{_≡_, refl, ap, ap₂, sym, _∙_}
+use mathlib.Core.Bool.{Bool, true, false, cond, _&&_, false≢true}
+use mathlib.Core.List.{List, [], _∷_}
+use native.Mathlib.Omega.{arith}
+use lib.Dec.{eqb, leb}
+use lib.ListN.{length, getD}
+use borrow.Author.Tests.{le-leb, lt-leb, leb-true, eq-eqb, eqb-true}
+use Rattle.ring.specs.Ring.{next}
+use Rattle.larq.specs.Channel.{Cell, waits, missing, headMissing, times, orderly, sound}
+use Rattle.larq.specs.Channel as channel
+use Rattle.record.specs.Place.{window, cellAt, spanOf, recordWith, recordOf, soundAt}
+use Rattle.record.specs.Judge.{timesOf}
+use Rattle.record.specs.Judge.{inRing, shapely, inShape}
+use Rattle.record.proofs.Windows.{window-none, window-suc, length-window, cell-waits, cell-missing}
+
+-- A test of the span, of M and of the times, by what the code finds.
+module _ (c m n : ℕ) (w k : List ℕ) (span : n ≡ spanOf c m) where
+  shape : inShape c m w k ≡ shapely (getD w 2 0) (window (cellAt w [] k) m n)
+  shape = ap (λ x. shapely (getD w 2 0) (window (cellAt w [] k) m x)) (sym span)
+
+  narrow : (n ≤ 32) → shapely (getD w 2 0) (window (cellAt w [] k) m n) ≡ (headMissing (window (cellAt w [] k) m n) && orderly 0 (getD w 2 0) (timesOf w k m n))
+  narrow l = rw (length-window (cellAt w [] k) m n, le-leb n 32 l)
+
+  pub shape-none : n ≡ 0 → true ≡ inShape c m w k
+  shape-none z = sym (shape ∙ ap (λ cs. shapely (getD w 2 0) cs) (window-none (cellAt w [] k) m n z))
+
+  pub shape-wide : 32 < n → false ≡ inShape c m w k
+  shape-wide l = sym (shape ∙ rw (length-window (cellAt w [] k) m n, lt-leb n 32 l))
+
+  module _ {j : ℕ} (some : n ≡ 0 → ⊥) (fits : n ≤ 32) (at-slot : j ≡ m % 32) where
+    -- the window, from its first cell
+    pub shape-head : (getD k j 0 ≡ 0 → ⊥) → false ≡ inShape c m w k
+    shape-head o =
+        let first : window (cellAt w [] k) m n ≡ waits (getD [] (m % 32) 0) ∷ window (cellAt w [] k) (next m) (n - 1) =
+        window-suc (cellAt w [] k) m n (omega arith) ∙ rw (cell-waits w [] k (m % 32) (rw at-slot at o)) in
+        sym (shape ∙ narrow fits ∙ ap (λ cs. headMissing cs && orderly 0 (getD w 2 0) (timesOf w k m n)) first)
+
+    pub shape-times : getD k j 0 ≡ 0 → orderly 0 (getD w 2 0) (timesOf w k m n) ≡ inShape c m w k
+    shape-times o =
+        let first : window (cellAt w [] k) m n ≡ missing (getD w (3 + m % 32) 0) ∷ window (cellAt w [] k) (next m) (n - 1) =
+        window-suc (cellAt w [] k) m n (omega arith) ∙ rw (cell-missing w [] k (m % 32) (rw at-slot at o)) in
+        sym (shape ∙ narrow fits ∙ ap (λ cs. headMissing cs && orderly 0 (getD w 2 0) (timesOf w k m n)) first)
+
+pub and-left : (a b : Bool) → (a && b) ≡ true → a ≡ true
+and-left true b e = refl
+and-left false b e = e
+
+pub and-right : (a b : Bool) → (a && b) ≡ true → b ≡ true
+and-right true b e = e
+and-right false b e = absurd (false≢true e)
+
+and-assoc : (a b c : Bool) → (a && (b && c)) ≡ ((a && b) && c)
+and-assoc true b c = refl
+and-assoc false b c = refl
+
+-- The whole test, from the three that the code makes.
+module _ (w k : List ℕ) where
+  abbrev sizes : Bool
+  sizes = eqb (length w) 35 && eqb (length k) 32
+
+  pub sizes-of : sizes ≡ true → (length w ≡ 35) × (length k ≡ 32)
+  sizes-of e = (eqb-true (length w) 35 (and-left (eqb (length w) 35) _ e), eqb-true (length k) 32 (and-right (eqb (length w) 35) _ e))
+
+  pub ring-of : inRing w ≡ true → (getD w 0 0 < 4096) × (getD w 1 0 < 4096)
+  ring-of e =
+      let c = leb-true (getD w 0 0) 4095 (and-left (leb (getD w 0 0) 4095) _ e) in
+      let m = leb-true (getD w 1 0) 4095 (and-right (leb (getD w 0 0) 4095) _ e) in
+      (omega arith, omega arith)
+
+  pub sound-sizes : sizes ≡ false → false ≡ soundAt w k
+  sound-sizes e = rw e
+
+  pub sound-is : sound channel.window (recordOf w [] k) ≡ (inRing w && inShape (getD w 0 0) (getD w 1 0) w k)
+  unfolding sound recordWith
+  sound-is = and-assoc (leb (getD w 0 0) 4095) (leb (getD w 1 0) 4095) _
+
+  pub sound-ring : sizes ≡ true → inRing w ≡ false → false ≡ soundAt w k
+  sound-ring e f = rw (e, sound-is, f)
+
+  pub sound-shape : sizes ≡ true → inRing w ≡ true → inShape (getD w 0 0) (getD w 1 0) w k ≡ soundAt w k
+  sound-shape e f = rw (e, sound-is, f)
+
+  pub sound-by-sizes : length w ≡ 35 → length k ≡ 32 → soundAt w k ≡ sound channel.window (recordOf w [] k)
+  sound-by-sizes e f = rw (eq-eqb (length w) 35 e, eq-eqb (length k) 32 f)
+
+  pub sound-ring-of : soundAt w k ≡ true → (getD w 0 0 < 4096) × (getD w 1 0 < 4096)
+  sound-ring-of e =
+      ring-of (and-left (inRing w) (inShape (getD w 0 0) (getD w 1 0) w k)
+      (sym sound-is ∙ and-right sizes (sound channel.window (recordOf w [] k)) e))
+
+-- The handles have no part in whether a record is broken.
+times-window : (w h k : List ℕ) (m n : ℕ) → times (window (cellAt w h k) m n) ≡ times (window (cellAt w [] k) m n)
+unfolding window
+times-window w h k m zero = refl
+times-window w h k m (suc n) = by-mark (eqb (getD k (m % 32) 0) 0) (times-window w h k (next m) n)
+  where
+    by-mark : (b : Bool) → times (window (cellAt w h k) (next m) n) ≡ times (window (cellAt w [] k) (next m) n)
+        → times (cond b (missing (getD w (3 + m % 32) 0)) (waits (getD h (m % 32) 0)) ∷ window (cellAt w h k) (next m) n)
+        ≡ times (cond b (missing (getD w (3 + m % 32) 0)) (waits (getD [] (m % 32) 0)) ∷ window (cellAt w [] k) (next m) n)
+    by-mark true i = ap (λ l. getD w (3 + m % 32) 0 ∷ l) i
+    by-mark false i = i
+
+head-window : (w h k : List ℕ) (m n : ℕ) → headMissing (window (cellAt w h k) m n) ≡ headMissing (window (cellAt w [] k) m n)
+unfolding window
+head-window w h k m zero = refl
+head-window w h k m (suc n) = by-mark (eqb (getD k (m % 32) 0) 0)
+  where
+    by-mark : (b : Bool) → headMissing (cond b (missing (getD w (3 + m % 32) 0)) (waits (getD h (m % 32) 0)) ∷ window (cellAt w h k) (next m) n)
+        ≡ headMissing (cond b (missing (getD w (3 + m % 32) 0)) (waits (getD [] (m % 32) 0)) ∷ window (cellAt w [] k) (next m) n)
+    by-mark true = refl
+    by-mark false = refl
+
+pub sound-handles : (w h k : List ℕ) → sound channel.window (recordOf w h k) ≡ sound channel.window (recordOf w [] k)
+unfolding sound recordWith
+sound-handles w h k =
+    let c = getD w 0 0 in
+    let m = getD w 1 0 in
+    let n = spanOf c m in
+    rw (length-window (cellAt w h k) m n, length-window (cellAt w [] k) m n, head-window w h k m n, times-window w h k m n)

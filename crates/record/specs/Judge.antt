@@ -1,0 +1,88 @@
+-- What is decided of an event before anything is written. Document 01, 'Numbers the box may answer with'.
+use Prim.Native.Nat.{ℕ, _≤_, _<_, _%_}
+use mathlib.Core.Path.{_≡_}
+use mathlib.Core.Bool.{Bool, _&&_}
+use mathlib.Core.List.{List, [], _∷_}
+use mathlib.Core.Logic.{_⊎_}
+use lib.ListN.{length, getD}
+use lib.Dec.{leb}
+use Rattle.wire.specs.Refusals.{Refusal, _else_, first}
+use Rattle.larq.specs.Channel.{window, reach, Cell, Channel, headMissing, times, orderly, sound}
+use Rattle.ring.specs.Ring.{steps, seen}
+use Rattle.ring.specs.declared.Side.the-variants.{Ahead, Behind, Far}
+use Rattle.larq.specs.Table.{Lent, lentEnough, notBefore}
+use Rattle.record.specs.Place as place
+use Rattle.record.specs.Place.{cellAt, spanOf, recordOf, placeSized}
+use Rattle.record.specs.Moving.{spanIn}
+use Rattle.record.specs.declared.Record.{Record}
+use Rattle.record.specs.declared.judging.Judged.{Judged}
+use Rattle.record.specs.declared.judging.Judged.the-variants.{Refused, Open}
+use Rattle.record.specs.declared.judging.Spot.{Spot}
+use Rattle.record.specs.declared.judging.Spot.the-variants as spot
+
+-- what is lent for a call, by its lengths
+abbrev pub lentOf : ℕ → ℕ → ℕ → ℕ → ℕ → ℕ → Lent
+lentOf words handles marks up returned nack =
+    record { up = up; returned = returned; nack = nack; whole = placeSized words handles marks }
+
+-- the times of the missing numbers, in sequence order: the handles have no part in it
+abbrev pub timesOf : List ℕ → List ℕ → ℕ → ℕ → List ℕ
+timesOf words marks m n = times (place.window (cellAt words [] marks) m n)
+
+-- the parts of the test that a record is not broken: C and M are in the ring; the span is not above the window, M is missing if anything is,
+-- and the times of missing numbers are in order
+abbrev pub inRing : List ℕ → Bool
+inRing words = leb (getD words 0 0) 4095 && leb (getD words 1 0) 4095
+
+abbrev pub shapely : ℕ → List (Cell ℕ) → Bool
+shapely latest cells = leb (length cells) window && (headMissing cells && orderly 0 latest (times cells))
+
+abbrev pub inShape : ℕ → ℕ → List ℕ → List ℕ → Bool
+inShape c m words marks = shapely (getD words 2 0) (place.window (cellAt words [] marks) m (spanOf c m))
+
+-- the tests that every event has, in the paper's order, with its number s
+abbrev pub common : Lent → ℕ → ℕ → Channel ℕ → List Refusal
+common lent s time c =
+    (lentEnough window lent else 1)
+    ∷ ((leb s 4095 else 2) ∷ ((sound window c else 6) ∷ ((notBefore time c else 7) ∷ [])))
+
+-- one of them fails, and the number is given
+pub record RefusedBy (tests : List Refusal) (number : ℕ) : Type 0 where
+  pub is : first tests ≡ number
+  pub some : 0 < number
+
+-- all of them pass, and the record is at hand
+pub record OpenAt (tests : List Refusal) (words : List ℕ) (r : Record) : Type 0 where
+  pub none : first tests ≡ 0
+  pub current : r .current .0 ≡ getD words 0 0
+  pub oldest : r .oldest .0 ≡ getD words 1 0
+  pub latest : r .latest ≡ getD words 2 0
+
+abbrev pub Judges : Lent → List ℕ → List ℕ → ℕ → ℕ → Judged → Type 0
+Judges lent words marks s time (Refused number) = RefusedBy (common lent s time (recordOf words [] marks)) number
+Judges lent words marks s time (Open r) = OpenAt (common lent s time (recordOf words [] marks)) words r
+
+-- a number at C or behind it, in the window or before M
+pub record BehindAt (c s : ℕ) : Type 0 where
+  pub by : ℕ
+  pub is : seen (reach window) c s ≡ Behind by
+
+pub record MissingAt (r : Record) (marks : List ℕ) (s : ℕ) : Type 0 where
+  pub behind : BehindAt (r .current .0) s
+  pub within : steps (r .oldest .0) s < spanIn r
+  pub marked : getD marks (s % 32) 0 ≡ 0
+
+pub record KnownAt (r : Record) (marks : List ℕ) (s : ℕ) : Type 0 where
+  pub behind : BehindAt (r .current .0) s
+  pub known : (spanIn r ≤ steps (r .oldest .0) s) ⊎ ((steps (r .oldest .0) s < spanIn r) × (getD marks (s % 32) 0 ≡ 0 → ⊥))
+
+pub record NextAt (r : Record) (s : ℕ) : Type 0 where
+  pub is : seen (reach window) (r .current .0) s ≡ Ahead 1
+  pub none : spanIn r ≡ 0
+
+abbrev pub LiesAt : Record → List ℕ → ℕ → Spot → Type 0
+LiesAt r marks s spot.Next = NextAt r s
+LiesAt r marks s (spot.Ahead d) = seen (reach window) (r .current .0) s ≡ Ahead d
+LiesAt r marks s spot.Missing = MissingAt r marks s
+LiesAt r marks s spot.Known = KnownAt r marks s
+LiesAt r marks s spot.Far = seen (reach window) (r .current .0) s ≡ Far

@@ -1,0 +1,182 @@
+// What is decided of an event before anything is written: the number that refuses it, or where its number lies.
+// Document 01, 'Numbers the box may answer with' and 'The channel table'.
+ghost use mathlib.Core.Path.{_≡_};
+ghost use Prim.Native.Nat.{_<_};
+ghost use lib.ListN.{length, getD};
+ghost use Rattle.larq.specs.Channel.{window, orderly};
+ghost use Rattle.larq.specs.Table.{lentEnough};
+ghost use Rattle.record.specs.Place.{soundAt};
+ghost use Rattle.record.specs.Judge.{lentOf, inRing, timesOf, inShape, Judges, LiesAt};
+use crate::Record;
+use crate::slot;
+use larq::WINDOW;
+use ring::Seq;
+use ring::Side;
+use wire::octet;
+
+// Whether the parts and the buffers are as long as they should be: number 1.
+fn lent_enough(
+    words: usize,
+    handles: usize,
+    marks: usize,
+    up: usize,
+    returned: usize,
+    nack: usize,
+) -> bool
+    ensures { λ r. ⌜ r ≡ lentEnough window (lentOf words handles marks up returned nack) ⌝ }
+{
+    let room = WINDOW as usize;
+    ((room <= up) & ((room <= returned) & (room <= nack)))
+        & ((words == 35) & ((handles == 32) & (marks == 32)))
+}
+
+// The record that a place's words hold.
+fn read(words: &[u64]) -> Record
+    requires { ⌜ (2 < length (now words)) × (getD (now words) 0 0 < 4096) × (getD (now words) 1 0 < 4096) ⌝ }
+    ensures { λ r. ⌜ (r .current .0 ≡ getD (now (words .entry)) 0 0) × (r .oldest .0 ≡ getD (now (words .entry)) 1 0) × (r .latest ≡ getD (now (words .entry)) 2 0) ⌝ }
+{
+    Record {
+        current: Seq(words[0] as u16),
+        oldest: Seq(words[1] as u16),
+        latest: words[2],
+    }
+}
+
+// Whether C and M are numbers of the ring.
+fn in_ring(words: &[u64]) -> bool
+    requires { ⌜ 1 < length (now words) ⌝ }
+    ensures { λ r. ⌜ r ≡ inRing (now (words .entry)) ⌝ }
+{
+    let last = Seq::SIZE as u64 - 1;
+    (words[0] <= last) & (words[1] <= last)
+}
+
+// Whether the times of the missing among n numbers from `from` on do not fall, and none is later than the latest.
+// As they do not fall, the last of them is the latest of them.
+fn in_order(words: &[u64], marks: &[u8], from: Seq, n: u16) -> bool
+    requires { ⌜ (length (now words) ≡ 35) × (length (now marks) ≡ 32) ⌝ }
+    ensures { λ r. ⌜ r ≡ orderly 0 (getD (now (words .entry)) 2 0) (timesOf (now (words .entry)) (now (marks .entry)) (from .0) n) ⌝ }
+{
+    let mut before: u64 = 0;
+    let mut i = from;
+    let mut left = n;
+    while 0 < left {
+        let j = slot(i);
+        if marks[j] == 0 {
+            let t = words[3 + j];
+            if t < before {
+                return false;
+            }
+            before = t;
+        }
+        i = i.forward(1);
+        left -= 1;
+    }
+    before <= words[2]
+}
+
+impl Record {
+    // Whether the window is not too wide, M is missing if anything is, and the times of missing numbers are in order.
+    fn in_shape(self, words: &[u64], marks: &[u8]) -> bool
+        requires { ⌜ (length (now words) ≡ 35) × (length (now marks) ≡ 32) ⌝ }
+        ensures { λ r. ⌜ r ≡ inShape (self .current .0) (self .oldest .0) (now (words .entry)) (now (marks .entry)) ⌝ }
+    {
+        let n = self.span();
+        if n == 0 {
+            return true;
+        }
+        if WINDOW < n {
+            return false;
+        }
+        let j = slot(self.oldest);
+        if marks[j] != 0 {
+            return false;
+        }
+        in_order(words, marks, self.oldest, n)
+    }
+}
+
+// Whether a place's record is not broken. A place whose parts have other lengths has no such record.
+pub fn is_sound(words: &[u64], marks: &[u8]) -> bool
+    ensures { λ r. ⌜ r ≡ soundAt (now (words .entry)) (now (marks .entry)) ⌝ }
+{
+    if !((words.len() == 35) & (marks.len() == 32)) {
+        return false;
+    }
+    if !in_ring(words) {
+        return false;
+    }
+    read(words).in_shape(words, marks)
+}
+
+// What is decided of an event: the number that refuses it, or the record that it acts on.
+pub enum Judged {
+    Refused(u8),
+    Open(Record),
+}
+
+// The numbers 1, 2, 6 and 7, in this order. A tick and a close have no number of their own, and give 0.
+pub fn judge(
+    words: &[u64],
+    marks: &[u8],
+    handles: usize,
+    up: usize,
+    returned: usize,
+    nack: usize,
+    number: u16,
+    time: u64,
+) -> Judged
+    ensures { λ r. ⌜ Judges (lentOf (length (now (words .entry))) handles (length (now (marks .entry))) up returned nack) (now (words .entry)) (now (marks .entry)) number time r ⌝ }
+{
+    if !lent_enough(words.len(), handles, marks.len(), up, returned, nack) {
+        return Judged::Refused(1);
+    }
+    if Seq::SIZE <= number {
+        return Judged::Refused(2);
+    }
+    if !is_sound(words, marks) {
+        return Judged::Refused(6);
+    }
+    if time < words[2] {
+        return Judged::Refused(7);
+    }
+    Judged::Open(read(words))
+}
+
+// Where the number of a frame lies: it is M, while nothing is missing; ahead of C by so many; in the window and missing; waiting already or
+// before M; or far. The first is what nearly every frame is, and is seen without the distance.
+pub enum Spot {
+    Next,
+    Ahead(u16),
+    Missing,
+    Known,
+    Far,
+}
+
+impl Record {
+    pub fn spot(self, marks: &[u8], s: Seq) -> Spot
+        ensures { λ r. ⌜ LiesAt self (now (marks .entry)) (s .0) r ⌝ }
+    {
+        let c = self.current;
+        let m = self.oldest;
+        let n = self.span();
+        if (s.0 == m.0) & (n == 0) {
+            return Spot::Next;
+        }
+        match c.seen(s) {
+            Side::Ahead(d) => Spot::Ahead(d),
+            Side::Behind(_) => {
+                if n <= m.steps(s) {
+                    return Spot::Known;
+                }
+                let j = slot(s);
+                if octet(marks, j) == 0 {
+                    Spot::Missing
+                } else {
+                    Spot::Known
+                }
+            }
+            Side::Far => Spot::Far,
+        }
+    }
+}
