@@ -26,7 +26,8 @@ use Rattle.record.specs.declared.judging.Judged.the-variants.{Refused, Open}
 use Rattle.channel.specs.declared.act.Last.{Last}
 use Rattle.channel.specs.declared.act.Last.the-variants.{Waits, Missing}
 use Rattle.record.proofs.Windows.{length-window, window-suc, cell-waits}
-use Rattle.record.proofs.Sounds.{and-left, and-right, ring-of, sound-is}
+use Rattle.wire.proofs.Joined.{and-left, and-right}
+use Rattle.record.proofs.Sounds.{ring-of, sound-is}
 use Rattle.record.proofs.Refusing.{Enough, enough-of}
 
 -- no number of the four is given: all four tests pass

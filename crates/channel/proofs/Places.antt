@@ -12,14 +12,14 @@ use Rattle.larq.specs.Settling.{Walked, walk}
 use Rattle.larq.specs.Events.{moved, taken}
 use Rattle.record.specs.Place.{window, cellAt, spanOf, recordWith, recordOf}
 use Rattle.record.specs.Moving.{spanIn}
-use Rattle.record.specs.Walk.{earlier, Settles, settleNumbers}
+use Rattle.record.specs.Walk.{earlier, passes, Settles, settleNumbers}
 use Rattle.record.proofs.Settling.{settles-all}
 use Rattle.channel.specs.Steps.{Sized, headed, walkOf, passedOf}
 use Rattle.record.specs.declared.Record.{Record}
 use Rattle.record.specs.declared.window.Settled.{Settled}
 use Rattle.record.proofs.Rounds.{span-passed}
 use Rattle.record.proofs.Windows.{drop-window, length-window, window-same}
-use Rattle.record.proofs.Walks.{passes, Passed, passed}
+use Rattle.record.proofs.Walks.{Passed, passed}
 
 -- the three words at the head have no part in the cells
 module _ (w h k : List ℕ) (c m t : ℕ) (sized : 2 < length w) where

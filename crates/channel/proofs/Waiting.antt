@@ -34,20 +34,20 @@ waiting-short handles marks m n =
     omega (arith, waiting-few (window (cellAt [] handles marks) m n), length-window (cellAt [] handles marks) m n)
 
 -- What the loop keeps: what is still to be laid from here is what was to be laid from the start.
-pub record Lays (h k : List ℕ) (m n at : ℕ) (before out : List ℕ) (to i left : ℕ) : Type 0 where
+pub record Lays (h k : List ℕ) (m n : ℕ) (before out : List ℕ) (to i left : ℕ) : Type 0 where
   pub room : to + left ≤ length out
   pub sized : length out ≡ length before
-  pub end : to + length (waitingOf h k i left) ≡ at + length (waitingOf h k m n)
-  pub laid : sets out to (waitingOf h k i left) ≡ sets before at (waitingOf h k m n)
+  pub end : to + length (waitingOf h k i left) ≡ 0 + length (waitingOf h k m n)
+  pub laid : sets out to (waitingOf h k i left) ≡ sets before 0 (waitingOf h k m n)
 
-module _ {h k : List ℕ} {m n at : ℕ} {before out : List ℕ} {to i left : ℕ} (keeps : Lays h k m n at before out to i left) where
-  pub lays-end : left ≡ 0 → Laid (waitingOf h k m n) at before out to
+module _ {h k : List ℕ} {m n : ℕ} {before out : List ℕ} {to i left : ℕ} (keeps : Lays h k m n before out to i left) where
+  pub lays-end : left ≡ 0 → Laid (waitingOf h k m n) 0 before out to
   lays-end z =
       let e : waitingOf h k i left ≡ [] = ap waiting (window-none (cellAt [] h k) i left z) in
       record { end-is = omega (arith, ap length e, keeps .end); buffer = sym (ap (sets out to) e) ∙ keeps .laid }
 
   module _ {j i′ : ℕ} (some : 0 < left) (at-slot : j ≡ i % 32) (step : i′ ≡ next i) where
-    pub lays-waits : (getD k j 0 ≡ 0 → ⊥) → Lays h k m n at before (set out to (getD h j 0)) (to + 1) i′ (left - 1)
+    pub lays-waits : (getD k j 0 ≡ 0 → ⊥) → Lays h k m n before (set out to (getD h j 0)) (to + 1) i′ (left - 1)
     lays-waits o =
         let e : waitingOf h k i left ≡ getD h j 0 ∷ waitingOf h k i′ (left - 1) =
         rw (at-slot, step) (ap waiting (window-suc (cellAt [] h k) i left some) ∙ rw (cell-waits [] h k (i % 32) (rw at-slot at o))) in
@@ -58,7 +58,7 @@ module _ {h k : List ℕ} {m n at : ℕ} {before out : List ℕ} {to i left : �
           laid = sets-more out to (getD h j 0) (waitingOf h k i′ (left - 1)) ∙ ap (sets out to) (sym e) ∙ keeps .laid;
         }
 
-    pub lays-missing : getD k j 0 ≡ 0 → Lays h k m n at before out to i′ (left - 1)
+    pub lays-missing : getD k j 0 ≡ 0 → Lays h k m n before out to i′ (left - 1)
     lays-missing o =
         let e : waitingOf h k i left ≡ waitingOf h k i′ (left - 1) =
         rw step (ap waiting (window-suc (cellAt [] h k) i left some) ∙ rw (cell-missing [] h k (i % 32) (rw at-slot at o))) in

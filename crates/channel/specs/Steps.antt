@@ -17,7 +17,7 @@ use Rattle.record.specs.Buffers.{Laid}
 use Rattle.record.specs.Moving.{recordIn, spanIn}
 use Rattle.record.specs.Judge.{lentOf, common}
 use Rattle.record.specs.declared.Record.{Record}
-use Rattle.record.specs.Walk.{walkFrom}
+use Rattle.record.specs.Walk.{passes, walkFrom}
 use Rattle.channel.specs.Call.{Parts, Buffers}
 use Rattle.channel.specs.declared.Answer.{Answer}
 use Rattle.channel.specs.declared.act.Counts.{Counts}
@@ -55,9 +55,9 @@ headed words c m t = set (set (set words 0 c) 1 m) 2 t
 abbrev pub walkOf : Record → ℕ → List ℕ → List ℕ → List ℕ → Walked ℕ
 walkOf r until words handles marks = walkFrom until words handles marks (r .oldest .0) (spanIn r)
 
--- how many numbers M passes on it: they are handed up or given up
+-- how many numbers M passes on it
 abbrev pub passedOf : Record → ℕ → List ℕ → List ℕ → List ℕ → ℕ
-passedOf r until words handles marks = length (walkOf r until words handles marks .up) + walkOf r until words handles marks .lost
+passedOf r until words handles marks = passes (walkOf r until words handles marks)
 
 -- nothing has been answered yet
 abbrev pub nothing : Counts

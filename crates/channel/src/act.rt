@@ -132,7 +132,7 @@ pub(crate) fn ahead(
         (buffers (now (up .exit)) [] (now (nack .exit))) (answerOf k) ⌝ }
 {
     let g = r.grown(s, made, time);
-    let passed = hand(handles, marks, r.oldest, g.old, up, 0);
+    let passed = hand(handles, marks, r.oldest, g.old, up);
     let asked = miss(words, marks, nack, g.first, g.count, time);
     bring(handles, marks, s, last);
     let kept = g.kept;
@@ -220,7 +220,7 @@ pub(crate) fn restarted(
         (buffers (now (up .entry)) (now (returned .entry)) [])
         (buffers (now (up .exit)) (now (returned .exit)) []) a ⌝ }
 {
-    let back = hand(handles, marks, r.oldest, r.span(), returned, 0);
+    let back = hand(handles, marks, r.oldest, r.span(), returned);
     let mut answer = handed_up(words, up, s, handle, time);
     answer.returned = back;
     answer
@@ -263,7 +263,7 @@ pub(crate) fn closed(
         (buffers [] (now (returned .entry)) [])
         (buffers [] (now (returned .exit)) []) a ⌝ }
 {
-    let count = hand(handles, marks, r.oldest, r.span(), returned, 0);
+    let count = hand(handles, marks, r.oldest, r.span(), returned);
     zero_u64(words);
     zero_u32(handles);
     zero_u8(marks);

@@ -1,26 +1,19 @@
 // Loops over the slots of a window's numbers, in place (document 01, 'Data', 'Reminder' and what is said of waiting handles).
 ghost use mathlib.Core.Path.{_≡_};
-ghost use Prim.Native.Nat.{_+_, _≤_};
+ghost use Prim.Native.Nat.{_≤_};
 ghost use lib.ListN.{length};
 ghost use Rattle.record.specs.Buffers.{Laid};
 ghost use Rattle.channel.specs.Slots.{waitingOf, Missed};
 use record::slot;
 use ring::Seq;
 
-// Lays the handles that wait among n numbers from `from` on into `out`, from `at` on: where they end.
-pub(crate) fn hand(
-    handles: &[u32],
-    marks: &[u8],
-    from: Seq,
-    n: u16,
-    out: &mut [u32],
-    at: usize,
-) -> usize
+// Lays the handles that wait among n numbers from `from` on into `out`: how many they are.
+pub(crate) fn hand(handles: &[u32], marks: &[u8], from: Seq, n: u16, out: &mut [u32]) -> usize
     requires { ⌜ (length (now handles) ≡ 32) × (length (now marks) ≡ 32) ⌝ }
-    requires { ⌜ at + n ≤ length (now out) ⌝ }
-    ensures { λ r. ⌜ Laid (waitingOf (now (handles .entry)) (now (marks .entry)) (from .0) n) at (now (out .entry)) (now (out .exit)) r ⌝ }
+    requires { ⌜ n ≤ length (now out) ⌝ }
+    ensures { λ r. ⌜ Laid (waitingOf (now (handles .entry)) (now (marks .entry)) (from .0) n) 0 (now (out .entry)) (now (out .exit)) r ⌝ }
 {
-    let mut to = at;
+    let mut to: usize = 0;
     let mut i = from;
     let mut left = n;
     while 0 < left {

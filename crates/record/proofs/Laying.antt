@@ -14,12 +14,6 @@ use Rattle.record.specs.Buffers.{Wrote, Laid}
 pub sets-more : (l : List ℕ) (at v : ℕ) (x : List ℕ) → sets (set l at v) (at + 1) x ≡ sets l at (v ∷ x)
 sets-more l at v x = ap (λ (i : ℕ). sets (set l at v) i x) (add-one at)
 
--- a store past the end is no store
-pub set-beyond : (l : List ℕ) (at v : ℕ) → length l ≤ at → set l at v ≡ l
-set-beyond [] at v h = refl
-set-beyond (x ∷ l) zero v h = absurd (let z : ⊥ = omega arith in z)
-set-beyond (x ∷ l) (suc at) v h = ap (λ (l : List ℕ). x ∷ l) (set-beyond l at v (omega arith))
-
 -- one list after the other
 pub sets-sets : (x y l : List ℕ) (at : ℕ) → sets (sets l at x) (at + length x) y ≡ sets l at (x ++ y)
 sets-sets [] y l at = ap (λ (i : ℕ). sets l i y) (add-zero at)

@@ -14,7 +14,8 @@ use Rattle.larq.specs.Table.{Lent, lentEnough}
 use Rattle.record.specs.Place.{recordWith, recordOf, soundAt, placeSized}
 use Rattle.record.specs.Judge.{lentOf, common, RefusedBy, OpenAt}
 use Rattle.record.specs.declared.Record.{Record}
-use Rattle.record.proofs.Sounds.{and-left, and-right, sizes-of, sound-by-sizes, sound-ring-of}
+use Rattle.wire.proofs.Joined.{and-left, and-right}
+use Rattle.record.proofs.Sounds.{place-sizes, sizes-of, sound-by-sizes, sound-ring-of}
 
 -- what number 1 asks
 pub record Enough (words handles marks up returned nack : ℕ) : Type 0 where
@@ -29,16 +30,15 @@ pub enough-of : (words handles marks up returned nack : ℕ) → lentEnough wind
     → Enough words handles marks up returned nack
 enough-of words handles marks up returned nack e =
     let rooms = and-left (leb 32 up && (leb 32 returned && leb 32 nack)) _ e in
-    let sizes = and-right (leb 32 up && (leb 32 returned && leb 32 nack)) _ e in
     let rooms′ = and-right (leb 32 up) _ rooms in
-    let sizes′ = and-right (eqb words 35) _ sizes in
+    let sizes = place-sizes words handles marks (and-right (leb 32 up && (leb 32 returned && leb 32 nack)) _ e) in
     record {
       up-room = leb-true 32 up (and-left (leb 32 up) _ rooms);
       returned-room = leb-true 32 returned (and-left (leb 32 returned) _ rooms′);
       nack-room = leb-true 32 nack (and-right (leb 32 returned) _ rooms′);
-      words-sized = eqb-true words 35 (and-left (eqb words 35) _ sizes);
-      handles-sized = eqb-true handles 32 (and-left (eqb handles 32) _ sizes′);
-      marks-sized = eqb-true marks 32 (and-right (eqb handles 32) _ sizes′);
+      words-sized = sizes .0;
+      handles-sized = sizes .1;
+      marks-sized = sizes .2;
     }
 
 module _ (words marks : List ℕ) (handles up returned nack s time : ℕ) where

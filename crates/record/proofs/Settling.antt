@@ -2,26 +2,25 @@
 -- Assumes nothing.
 use Prim.Native.Nat.{ℕ, suc, _+_, _-_, _%_, _≤_, _<_}
 use mathlib.Core.Path.{_≡_, refl, ap, sym, _∙_}
-use mathlib.Core.Bool.{Bool, true, false, cond, _&&_}
+use mathlib.Core.Bool.{Bool, true, false, cond}
 use mathlib.Core.List.{List, [], _∷_}
 use native.Mathlib.Omega.{arith}
 use native.Mathlib.Nat.{add-zero}
 use lib.ListN.{length, getD, set, length-set}
 use lib.Seq.{sets}
-use lib.Dec.{eqb}
-use borrow.Author.Tests.{lt-ltb, le-ltb, eq-eqb, eqb-true}
+use borrow.Author.Tests.{lt-ltb, le-ltb, eq-eqb}
 use Rattle.ring.specs.Ring.{next}
 use Rattle.larq.specs.Channel.{Cell, missing}
 use Rattle.larq.specs.Settling.{Walked, walk, stays, handing, losing}
-use Rattle.record.specs.Place.{window, cellAt}
-use Rattle.record.specs.Walk.{earlier, walkFrom, Settles, most, settleNumbers}
+use Rattle.record.specs.Place.{window, cellAt, placeSized}
+use Rattle.record.specs.Walk.{earlier, passes, walkFrom, Settles, most, settleNumbers}
 use Rattle.record.specs.Buffers.{Laid}
 use Rattle.record.specs.declared.Record.{Record}
 use Rattle.record.specs.declared.window.Settled.{Settled}
 use Rattle.record.proofs.Windows.{window-none, window-suc, cell-waits, cell-missing}
 use Rattle.record.proofs.Laying.{sets-more}
-use Rattle.record.proofs.Sounds.{and-left, and-right}
-use Rattle.record.proofs.Walks.{passes, walk-first}
+use Rattle.record.proofs.Sounds.{place-sizes}
+use Rattle.record.proofs.Walks.{walk-first}
 
 -- Over how many numbers M walks, by what the code finds.
 pub record Fits (w h k : List ℕ) (at left : ℕ) (up : List ℕ) : Type 0 where
@@ -31,22 +30,15 @@ pub record Fits (w h k : List ℕ) (at left : ℕ) (up : List ℕ) : Type 0 wher
   pub room : left ≤ length up - at
 
 module _ (w h k : List ℕ) (n at : ℕ) (up : List ℕ) where
-  abbrev whole : Bool
-  whole = eqb (length w) 35 && (eqb (length h) 32 && eqb (length k) 32)
-
-  fits-by : (b : Bool) → whole ≡ b → 0 < cond b (most n (length up - at)) 0 → Fits w h k at (cond b (most n (length up - at)) 0) up
+  fits-by : (b : Bool) → placeSized (length w) (length h) (length k) ≡ b → 0 < cond b (most n (length up - at)) 0
+      → Fits w h k at (cond b (most n (length up - at)) 0) up
   fits-by true e p =
-      let rest = and-right (eqb (length w) 35) _ e in
-      record {
-        words = eqb-true _ _ (and-left (eqb (length w) 35) _ e);
-        handles = eqb-true _ _ (and-left (eqb (length h) 32) _ rest);
-        marks = eqb-true _ _ (and-right (eqb (length h) 32) _ rest);
-        room = omega arith;
-      }
+      let sizes = place-sizes (length w) (length h) (length k) e in
+      record { words = sizes .0; handles = sizes .1; marks = sizes .2; room = omega arith }
   fits-by false e p = absurd (let z : ⊥ = omega arith in z)
 
   numbers-fit : 0 < settleNumbers w h k n at up → Fits w h k at (settleNumbers w h k n at up) up
-  numbers-fit = fits-by whole refl
+  numbers-fit = fits-by (placeSized (length w) (length h) (length k)) refl
 
 -- What the loop keeps: `gone` handles went up and `lost` numbers were given up so far.
 pub record Settles-on (until : ℕ) (w h k : List ℕ) (m n at : ℕ) (before up : List ℕ) (i left gone lost : ℕ) : Type 0 where

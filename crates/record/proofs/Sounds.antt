@@ -7,10 +7,11 @@ use native.Mathlib.Omega.{arith}
 use lib.Dec.{eqb, leb}
 use lib.ListN.{length, getD}
 use borrow.Author.Tests.{le-leb, lt-leb, leb-true, eq-eqb, eqb-true}
+use Rattle.wire.proofs.Joined.{and-left, and-right}
 use Rattle.ring.specs.Ring.{next}
 use Rattle.larq.specs.Channel.{Cell, waits, missing, headMissing, times, orderly, sound}
 use Rattle.larq.specs.Channel as channel
-use Rattle.record.specs.Place.{window, cellAt, spanOf, recordWith, recordOf, soundAt}
+use Rattle.record.specs.Place.{window, cellAt, spanOf, recordWith, recordOf, soundAt, placeSized}
 use Rattle.record.specs.Judge.{timesOf}
 use Rattle.record.specs.Judge.{inRing, shapely, inShape}
 use Rattle.record.proofs.Windows.{window-none, window-suc, length-window, cell-waits, cell-missing}
@@ -43,17 +44,18 @@ module _ (c m n : ℕ) (w k : List ℕ) (span : n ≡ spanOf c m) where
         window-suc (cellAt w [] k) m n (omega arith) ∙ rw (cell-missing w [] k (m % 32) (rw at-slot at o)) in
         sym (shape ∙ narrow fits ∙ ap (λ cs. headMissing cs && orderly 0 (getD w 2 0) (timesOf w k m n)) first)
 
-pub and-left : (a b : Bool) → (a && b) ≡ true → a ≡ true
-and-left true b e = refl
-and-left false b e = e
-
-pub and-right : (a b : Bool) → (a && b) ≡ true → b ≡ true
-and-right true b e = e
-and-right false b e = absurd (false≢true e)
-
 and-assoc : (a b c : Bool) → (a && (b && c)) ≡ ((a && b) && c)
 and-assoc true b c = refl
 and-assoc false b c = refl
+
+-- the parts of a place, by their lengths
+pub place-sizes : (words handles marks : ℕ) → placeSized words handles marks ≡ true → (words ≡ 35) × (handles ≡ 32) × (marks ≡ 32)
+place-sizes words handles marks e =
+    let rest = and-right (eqb words 35) _ e in (
+      eqb-true words 35 (and-left (eqb words 35) _ e),
+      eqb-true handles 32 (and-left (eqb handles 32) _ rest),
+      eqb-true marks 32 (and-right (eqb handles 32) _ rest),
+    )
 
 -- The whole test, from the three that the code makes.
 module _ (w k : List ℕ) where

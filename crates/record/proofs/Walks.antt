@@ -12,16 +12,12 @@ use Rattle.ring.specs.Ring.{size, forward, next}
 use Rattle.larq.specs.Channel.{Cell, waits, missing, waiting, headMissing}
 use Rattle.larq.specs.Settling.{Walked, walk, stays, handing, losing, wide, hold, stale}
 use Rattle.record.specs.Place.{window}
-use Rattle.record.specs.Walk.{earlier, most}
+use Rattle.record.specs.Walk.{earlier, passes, most}
 use Rattle.record.proofs.Rounds.{forward-none, forward-next}
 
 -- what went up and was given up before a walk
 abbrev pub so-far : {H : Type 0} → List H → ℕ → Walked H → Walked H
 so-far us n p = record { oldest = p .oldest; cells = p .cells; up = us ++ p .up; lost = n + p .lost }
-
--- how many numbers M passed
-abbrev pub passes : {H : Type 0} → Walked H → ℕ
-passes p = length (p .up) + p .lost
 
 -- M passed so many numbers of the window
 pub record Passed {H : Type 0} (m : ℕ) (cs : List (Cell H)) (p : Walked H) : Type 0 where

@@ -15,6 +15,10 @@ use Rattle.record.specs.declared.window.Settled.{Settled}
 abbrev pub earlier : ℕ → ℕ → ℕ → Bool
 earlier until t span = ltb t until
 
+-- how many numbers M passed: they were handed up or given up
+abbrev pub passes : {H : Type 0} → Walked H → ℕ
+passes p = length (p .up) + p .lost
+
 -- M's walk over n numbers from m on
 abbrev pub walkFrom : ℕ → List ℕ → List ℕ → List ℕ → ℕ → ℕ → Walked ℕ
 walkFrom until w h k m n = walk (earlier until) m (window (cellAt w h k) m n)

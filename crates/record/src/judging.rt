@@ -8,6 +8,7 @@ ghost use Rattle.larq.specs.Table.{lentEnough};
 ghost use Rattle.record.specs.Place.{soundAt};
 ghost use Rattle.record.specs.Judge.{lentOf, inRing, timesOf, inShape, Judges, LiesAt};
 use crate::Record;
+use crate::is_whole;
 use crate::slot;
 use larq::WINDOW;
 use ring::Seq;
@@ -26,8 +27,7 @@ fn lent_enough(
     ensures { λ r. ⌜ r ≡ lentEnough window (lentOf words handles marks up returned nack) ⌝ }
 {
     let room = WINDOW as usize;
-    ((room <= up) & ((room <= returned) & (room <= nack)))
-        & ((words == 35) & ((handles == 32) & (marks == 32)))
+    ((room <= up) & ((room <= returned) & (room <= nack))) & is_whole(words, handles, marks)
 }
 
 // The record that a place's words hold.

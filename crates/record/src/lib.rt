@@ -3,7 +3,7 @@
 ghost use mathlib.Core.Path.{_≡_};
 ghost use Prim.Native.Nat.{_-_, _%_};
 ghost use Rattle.ring.specs.Ring.{forward, next};
-ghost use Rattle.record.specs.Place.{spanOf};
+ghost use Rattle.record.specs.Place.{spanOf, placeSized};
 ghost use Rattle.record.specs.Moving.{IsGrown};
 
 mod judging;
@@ -38,6 +38,13 @@ pub fn slot(n: Seq) -> usize
     ensures { λ r. ⌜ r ≡ n .0 % 32 ⌝ }
 {
     (n.0 % 32) as usize
+}
+
+// Whether parts of these lengths are those of a place.
+pub(crate) fn is_whole(words: usize, handles: usize, marks: usize) -> bool
+    ensures { λ r. ⌜ r ≡ placeSized words handles marks ⌝ }
+{
+    (words == 35) & ((handles == 32) & (marks == 32))
 }
 
 // By how much a exceeds b, or 0.

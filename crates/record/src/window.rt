@@ -6,6 +6,7 @@ ghost use lib.ListN.{length};
 ghost use Rattle.record.specs.Moving.{spanIn};
 ghost use Rattle.record.specs.Walk.{Settles, most, settleNumbers};
 use crate::Record;
+use crate::is_whole;
 use crate::slot;
 
 // A record whose M has moved on, how many handles went up, and how many numbers were given up.
@@ -53,7 +54,7 @@ impl Record {
     {
         let mut kept = self;
         let mut left = all_or_none(
-            (words.len() == 35) & ((handles.len() == 32) & (marks.len() == 32)),
+            is_whole(words.len(), handles.len(), marks.len()),
             least(self.span(), room_from(at, up.len())),
         );
         let mut gone: usize = 0;

@@ -14,10 +14,10 @@ use Rattle.record.proofs.slot.Reads as slot-reads
 use Rattle.ring.proofs.Seq.forward.Reads as forward-reads
 
 abbrev Inv-loop : tie.InvT-loop
-Inv-loop handles marks n out₀ at to₀ i₀ left₀ out to i left = Lays handles marks (i₀ .0) n at out₀ out to (i .0) left
+Inv-loop handles marks n out₀ to₀ i₀ left₀ out to i left = Lays handles marks (i₀ .0) n out₀ out to (i .0) left
 
 abbrev μ-loop : tie.MeasureT-loop
-μ-loop handles marks n out₀ at to₀ i₀ left₀ out to i left = left
+μ-loop handles marks n out₀ to₀ i₀ left₀ out to i left = left
 
 loop-holds : tie.Need-loop-holds Inv-loop μ-loop
 loop-holds c = record { room = omega arith; sized = refl; end = refl; laid = refl }

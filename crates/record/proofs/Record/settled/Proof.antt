@@ -11,6 +11,7 @@ use Rattle.record.proofs.Record.settled.Lts as lts
 use Rattle.record.proofs.Record.moved.Reads as moved-reads
 use Rattle.record.proofs.Record.span.Reads as span-reads
 use Rattle.record.proofs.slot.Reads as slot-reads
+use Rattle.record.proofs.is_whole.Reads as is-whole-reads
 use Rattle.record.proofs.window.all_or_none.Reads as all-or-none-reads
 use Rattle.record.proofs.window.least.Reads as least-reads
 use Rattle.record.proofs.window.room_from.Reads as room-from-reads
@@ -23,6 +24,9 @@ Inv-loop words handles marks up₀ at until kept₀ left₀ gone₀ lost₀ up k
 
 abbrev μ-loop : tie.MeasureT-loop
 μ-loop words handles marks up₀ at until kept₀ left₀ gone₀ lost₀ up kept left gone lost = left
+
+is-whole-requires : tie.Need-is-whole-requires Inv-loop μ-loop
+is-whole-requires c κs = search needs
 
 span-requires : tie.Need-span-requires Inv-loop μ-loop
 span-requires c κs = search needs
@@ -37,7 +41,7 @@ all-or-none-requires : tie.Need-all-or-none-requires Inv-loop μ-loop
 all-or-none-requires c κs = search needs
 
 loop-holds : tie.Need-loop-holds Inv-loop μ-loop
-loop-holds c = (settles-start _ _ _ _ _ (c .before .before .before .span .result) _ (c .before .before .before .before .before .before .before .before .args .at) _ (rw (c .before .least .ensures, c .before .before .room-from .ensures) at (c .all-or-none .ensures)), refl, refl)
+loop-holds c = (settles-start _ _ _ _ _ (c .before .before .before .span .result) _ (c .before .before .before .before .before .before .before .before .before .args .at) _ (rw (c .before .least .ensures, c .before .before .room-from .ensures, c .before .before .before .before .is-whole .ensures) at (c .all-or-none .ensures)), refl, refl)
 
 slot-requires : tie.Need-slot-requires Inv-loop μ-loop
 slot-requires c κs = search needs
@@ -103,7 +107,7 @@ same-length c = search needs
 returns : tie.Need-returns Inv-loop μ-loop
 returns c =
     let l = c .before .loop in
-    settles (c .before .before .before .before .before .before .before .before .before .before .args .self) _ (rw (c .before .before .before .least .ensures, c .before .before .before .before .room-from .ensures, c .before .before .before .before .before .span .ensures) at (c .before .before .all-or-none .ensures))
+    settles (c .before .before .before .before .before .before .before .before .before .before .before .args .self) _ (rw (c .before .before .before .least .ensures, c .before .before .before .before .room-from .ensures, c .before .before .before .before .before .span .ensures, c .before .before .before .before .before .before .is-whole .ensures) at (c .before .before .all-or-none .ensures))
     (rests-none (l .inv .0) (omega arith)) (l .inv .1) (l .inv .2)
 
 same-length-2 : tie.Need-same-length-2 Inv-loop μ-loop
@@ -112,7 +116,7 @@ same-length-2 c = search needs
 returns-2 : tie.Need-returns-2 Inv-loop μ-loop
 returns-2 c =
     let l = c .before .before .before .before .before .before .loop in
-    settles (c .before .before .before .before .before .before .before .before .before .before .before .before .before .before .before .args .self) _ (rw (c .before .before .before .before .before .before .before .before .least .ensures, c .before .before .before .before .before .before .before .before .before .room-from .ensures, c .before .before .before .before .before .before .before .before .before .before .span .ensures) at (c .before .before .before .before .before .before .before .all-or-none .ensures))
+    settles (c .before .before .before .before .before .before .before .before .before .before .before .before .before .before .before .before .args .self) _ (rw (c .before .before .before .before .before .before .before .before .least .ensures, c .before .before .before .before .before .before .before .before .before .room-from .ensures, c .before .before .before .before .before .before .before .before .before .before .span .ensures, c .before .before .before .before .before .before .before .before .before .before .before .is-whole .ensures) at (c .before .before .before .before .before .before .before .all-or-none .ensures))
     (rests-missing (l .inv .0) (omega arith) (c .before .before .before .before .slot .ensures) (c .before .before .if1 .left) (c .if2 .taken)) (l .inv .1) (l .inv .2)
 
 pub settled-spec : {M : Type 1} → statement M
@@ -121,6 +125,7 @@ settled-spec =
     (tie.spec
     Inv-loop
     μ-loop
+    is-whole-requires
     span-requires
     room-from-requires
     least-requires

@@ -4,7 +4,7 @@ use mathlib.Core.Logic.{inl, inr}
 use lib.Dec.{eqb}
 use borrow.Author.Tests.{eqb-true}
 use Rattle.record.specs.Moving.{spanIn}
-use Rattle.record.proofs.Sounds.{and-left, and-right}
+use Rattle.wire.proofs.Joined.{and-left, and-right}
 use Rattle.record.proofs.Spots.{next-is-ahead}
 use borrow.Author.Needs.{needs}
 use Rattle.record.proofs.Record.spot.Statement.{statement}
