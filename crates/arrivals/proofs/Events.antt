@@ -9,15 +9,13 @@ use native.Mathlib.Omega.{arith}
 use borrow.Author.Tests.{ne-eqb, leb-true}
 use lib.ListN.{length}
 use lib.Dec.{leb, eqb}
-use Rattle.ring.specs.declared.Side.{Side}
-use Rattle.ring.specs.declared.Side.the-variants.{Ahead, Behind, Far}
 use Rattle.larq.specs.Channel.{Cell, Channel, window}
 use Rattle.larq.specs.Answer.{refused}
 use Rattle.larq.specs.Events.{Act, frame, reminder, tick, close, data-on, filled, filling, reminder-on, sideOf, act-on}
 use Rattle.larq.specs.Table.{Key, Lent, Event, numberInRing, isData, one}
 use Rattle.larq.specs.Demands.{isClose}
 use Rattle.larq.proofs.Cases.{one-case}
-use Rattle.ring.specs.Ring.{steps}
+use Rattle.ring.specs.Ring.{steps, Side, Ahead, Behind, Far}
 use Rattle.channel.specs.Call.{Parts, parts, Buffers, buffers, eventAt, ruleAt, Called, Says}
 use Rattle.record.specs.Place.{recordOf}
 use Rattle.channel.specs.declared.Answer.{Answer}

@@ -1,24 +1,25 @@
-// What comes in from the line: a data frame and a reminder, on the table of 64 places that the host lends (document 01, 'The four channel
-// events'; 001, 6.6.4). Each call decides on what is lent where it goes, and then changes one place: its channel's, or the free one that it opens.
+// What comes in from the line: a data frame, here, and a reminder, in reminders.rt, on the table of 64 places that the host lends (document 01,
+// 'The four channel events'; 001, 6.6.4). Each call decides on what is lent where it goes, and then changes one place: its channel's, or the free
+// one that it opens.
 
+mod reminders;
 mod writes;
 
 ghost use mathlib.Core.Path.{_≡_};
-ghost use Rattle.larq.specs.Events.{frame, reminder};
+ghost use Rattle.larq.specs.Events.{frame};
 ghost use Rattle.channel.specs.Call.{buffers};
 ghost use Rattle.table.specs.Key.{keyOf};
 ghost use Rattle.table.specs.Table.{slices};
 ghost use Rattle.arrivals.specs.Event.{Call};
 use channel::Answer;
 use channel::refused;
+pub use reminders::reminder;
 use table::DataWay;
 use table::SLOTS;
 use table::WORDS;
-use table::Way;
 use table::address;
 use table::data_way_of;
 use table::first_word;
-use table::way_of;
 use writes::open_at;
 
 // A data frame: its number, and the handle by which the host knows it.
@@ -84,58 +85,5 @@ pub fn data(
             time,
         ),
         DataWay::Refused(n) => refused(n),
-    }
-}
-
-// A reminder that number `number` was sent.
-pub fn reminder(
-    keys: &[u64],
-    words: &mut [u64],
-    handles: &mut [u32],
-    marks: &mut [u8],
-    up: &mut [u32],
-    returned: &mut [u32],
-    nack: &mut [u16],
-    destination: &[u8; 6],
-    source: &[u8; 6],
-    priority: u8,
-    time: u64,
-    number: u16,
-) -> Answer
-    ensures { λ r. ⌜ Call (keyOf (now (destination .entry)) (now (source .entry)) priority) time (reminder number)
-        (slices (now (keys .entry)) (now (words .entry)) (now (handles .entry)) (now (marks .entry)))
-        (slices (now (keys .entry)) (now (words .exit)) (now (handles .exit)) (now (marks .exit)))
-        (buffers (now (up .entry)) (now (returned .entry)) (now (nack .entry)))
-        (buffers (now (up .exit)) (now (returned .exit)) (now (nack .exit))) r ⌝ }
-{
-    let way = way_of(
-        keys,
-        words.len(),
-        handles.len(),
-        marks.len(),
-        up.len(),
-        returned.len(),
-        nack.len(),
-        number,
-        destination,
-        source,
-        priority,
-    );
-    match way {
-        Way::Known(i) => {
-            let from = WORDS * i;
-            let slot = SLOTS * i;
-            channel::reminder(
-                &mut words[from..from + WORDS],
-                &mut handles[slot..slot + SLOTS],
-                &mut marks[slot..slot + SLOTS],
-                up,
-                returned,
-                nack,
-                number,
-                time,
-            )
-        }
-        Way::Refused(n) => refused(n),
     }
 }

@@ -8,9 +8,7 @@ use native.Mathlib.Omega.{arith}
 use lib.Dec.{eqb, leb}
 use lib.ListN.{length, getD, set}
 use Rattle.wire.specs.Refusals.{Refusal, first, _else_}
-use Rattle.ring.specs.Ring.{next, seen}
-use Rattle.ring.specs.declared.Side.{Side}
-use Rattle.ring.specs.declared.Side.the-variants.{Ahead, Behind, Far}
+use Rattle.ring.specs.Ring.{next, seen, Side, Ahead, Behind, Far}
 use Rattle.larq.specs.Channel as channel
 use Rattle.larq.specs.Channel.{Cell, Channel, waits, missing, headMissing, times, orderly, sound, reach}
 use Rattle.larq.specs.Answer.{Change, Outcome, refused, accepted, holds}
@@ -62,15 +60,6 @@ did-as {o} {o′} {before} {after} {had} {has} {a} e d =
 
 -- A buffer that a function was not lent stays as it is.
 module _ {o : Outcome ℕ} {before after : Parts} {a : Answer} where
-  pub did-up : {B b N n : List ℕ} (U : List ℕ) → Did o before after (buffers [] B N) (buffers [] b n) a
-      → Did o before after (buffers U B N) (buffers U b n) a
-  did-up U d =
-      let x = d .answered in
-      record {
-        answered = record { number = x .number; up = wrote-idle _ U _ (x .up); returned = x .returned; nack = x .nack; lost = x .lost };
-        became = d .became;
-      }
-
   pub did-returned : {U u N n : List ℕ} (B : List ℕ) → Did o before after (buffers U [] N) (buffers u [] n) a
       → Did o before after (buffers U B N) (buffers u B n) a
   did-returned B d =

@@ -11,10 +11,10 @@ use borrow.Author.Tests.{eq-eqb}
 use Rattle.ring.specs.Ring.{size, forward}
 use Rattle.larq.specs.Channel.{Cell, waits, missing}
 use Rattle.record.specs.Place.{window, cellAt}
-use Rattle.channel.specs.Slots.{stamped}
+use Rattle.record.specs.Step.{stamped}
 use Rattle.record.proofs.Rounds.{slots-apart}
 use Rattle.record.proofs.Windows.{window-add, window-same, window-all, cell-missing}
-use Rattle.channel.proofs.Stamping.{stamped-in, stamped-out}
+use Rattle.record.proofs.Stamping.{stamped-in, stamped-out}
 
 -- a handle is put at slot i, and the slot marked
 module _ (w h k : List ℕ) (i x : ℕ) where

@@ -4,9 +4,7 @@ use mathlib.Core.Path.{_≡_, refl, ap, sym, _∙_}
 use mathlib.Core.List.{List, [], _∷_, _++_}
 use native.Mathlib.Omega.{arith}
 use lib.ListN.{length, set}
-use Rattle.ring.specs.Ring.{next, steps, seen}
-use Rattle.ring.specs.declared.Side.{Side}
-use Rattle.ring.specs.declared.Side.the-variants.{Ahead, Behind, Far}
+use Rattle.ring.specs.Ring.{next, steps, seen, Side, Ahead, Behind, Far}
 use Rattle.larq.specs.Channel as channel
 use Rattle.larq.specs.Channel.{waits, reach, Channel}
 use Rattle.larq.specs.Settling.{walk, wide}
@@ -14,11 +12,11 @@ use Rattle.larq.specs.Answer.{Outcome, accepted, holds}
 use Rattle.larq.specs.Events.{frame, act-on, data-on, ahead, restarted, opened, asked, settledAt, taken}
 use Rattle.record.specs.Place.{window, cellAt, spanOf, recordWith, recordOf}
 use Rattle.channel.specs.Call.{Parts, Buffers, parts, buffers, Says, Did, Called}
-use Rattle.record.specs.Moving.{recordIn, spanIn}
-use Rattle.channel.specs.Steps.{Ready, headed, answerOf, filledAt, dataAt}
+use Rattle.record.specs.Moving.{recordIn, spanIn, headed}
+use Rattle.channel.specs.Steps.{Ready, answerOf, filledAt, dataAt}
 use Rattle.record.specs.Judge.{NextAt, MissingAt, KnownAt}
 use Rattle.channel.specs.declared.Answer.{Answer}
-use Rattle.channel.specs.declared.act.Counts.{Counts}
+use Rattle.record.specs.declared.step.Counts.{Counts}
 use Rattle.record.specs.declared.Record.{Record}
 use Rattle.record.proofs.Windows.{window-none}
 use Rattle.record.proofs.Laying.{wrote-none, wrote-one}

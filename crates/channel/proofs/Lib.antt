@@ -1,5 +1,3 @@
-pub mod Waiting
-pub mod Stamping
 pub mod Asking
 pub mod Cells
 pub mod Places
@@ -11,5 +9,4 @@ pub mod Restarting
 pub mod Opening
 pub mod Calling
 pub mod Frames
-pub mod Reminders
 pub mod OneOutcome

@@ -9,8 +9,7 @@ use lib.Dec.{eqb, leb}
 use lib.ListN.{length, getD}
 use borrow.Author.Tests.{leb-true, eqb-true, eqb-false}
 use Rattle.wire.specs.Refusals.{Refusal, first, _else_}
-use Rattle.ring.specs.Ring.{next, steps, seen}
-use Rattle.ring.specs.declared.Side.the-variants.{Ahead}
+use Rattle.ring.specs.Ring.{next, steps, seen, Ahead}
 use Rattle.ring.proofs.Sides.{Seen, sees}
 use Rattle.larq.specs.Channel as channel
 use Rattle.larq.specs.Channel.{headMissing, times, orderly, sound, reach, waits, missing, Cell}
@@ -18,13 +17,11 @@ use Rattle.larq.specs.Table.{lentEnough, notBefore}
 use Rattle.record.specs.Place.{window, cellAt, spanOf, recordWith, recordOf}
 use Rattle.channel.specs.Call.{Parts, Buffers}
 use Rattle.record.specs.Moving.{recordIn, spanIn}
-use Rattle.channel.specs.Steps.{Sized, Ready, lentAt, testsAt, IsAhead, cellsOf}
+use Rattle.channel.specs.Steps.{Sized, Ready, lentAt, testsAt, IsAhead, cellsOf, Last, Waits, Missing}
 use Rattle.record.specs.Judge.{Judges, RefusedBy, OpenAt, inRing, inShape, shapely}
 use Rattle.record.specs.declared.Record.{Record}
 use Rattle.record.specs.declared.judging.Judged.{Judged}
 use Rattle.record.specs.declared.judging.Judged.the-variants.{Refused, Open}
-use Rattle.channel.specs.declared.act.Last.{Last}
-use Rattle.channel.specs.declared.act.Last.the-variants.{Waits, Missing}
 use Rattle.record.proofs.Windows.{length-window, window-suc, cell-waits}
 use Rattle.wire.proofs.Joined.{and-left, and-right}
 use Rattle.record.proofs.Sounds.{ring-of, sound-is}

@@ -6,20 +6,27 @@ use mathlib.Core.List.{List}
 use native.Mathlib.Omega.{arith}
 use lib.ListN.{length, getD, set, length-set}
 use lib.Seq.{getD-set-same, getD-set-other}
+use borrow.Author.Tests.{lt-ltb}
 use Rattle.ring.specs.Ring.{size, forward, steps}
 use Rattle.larq.specs.Channel.{Cell, Channel}
 use Rattle.larq.specs.Settling.{Walked, walk}
 use Rattle.larq.specs.Events.{moved, taken}
 use Rattle.record.specs.Place.{window, cellAt, spanOf, recordWith, recordOf}
-use Rattle.record.specs.Moving.{spanIn}
+use Rattle.record.specs.Moving.{spanIn, headed, storedIn}
 use Rattle.record.specs.Walk.{earlier, passes, Settles, settleNumbers}
 use Rattle.record.proofs.Settling.{settles-all}
-use Rattle.channel.specs.Steps.{Sized, headed, walkOf, passedOf}
+use Rattle.channel.specs.Steps.{Sized, Roomy, walkOf, passedOf, Finished}
+use Rattle.channel.specs.Call.{parts}
 use Rattle.record.specs.declared.Record.{Record}
+use Rattle.record.specs.declared.step.Counts.{Counts}
 use Rattle.record.specs.declared.window.Settled.{Settled}
 use Rattle.record.proofs.Rounds.{span-passed}
 use Rattle.record.proofs.Windows.{drop-window, length-window, window-same}
 use Rattle.record.proofs.Walks.{Passed, passed}
+
+-- a place has the words in which its record is laid down
+pub stored-headed : (r : Record) (w : List ℕ) → 2 < length w → storedIn r w ≡ headed w (r .current .0) (r .oldest .0) (r .latest)
+stored-headed r w sized = rw (lt-ltb 2 (length w) sized)
 
 -- the three words at the head have no part in the cells
 module _ (w h k : List ℕ) (c m t : ℕ) (sized : 2 < length w) where
@@ -96,3 +103,19 @@ pub passed-few : (r : Record) (until : ℕ) (w h k : List ℕ) → r .oldest .0 
 passed-few r until w h k ring =
     let cells = window (cellAt w h k) (r .oldest .0) (spanIn r) in
     omega (arith, passed (earlier until) (r .oldest .0) cells ring .few, length-window (cellAt w h k) (r .oldest .0) (spanIn r))
+
+-- M has settled in a place, where it has room, and the record is laid down
+pub finished : {r : Record} {had : Counts} {w h k before after w′ : List ℕ} {s : Settled} → Sized w h k → Roomy r had w h k before
+    → Settles r (settleNumbers w h k (spanIn r) (had .up) before) 0 w h k (had .up) before after s → w′ ≡ storedIn (s .kept) w
+    → Finished r (parts w h k) had before w′ after (record { up = had .up + s .up; nack = had .nack; lost = had .lost })
+finished {r} {had} {w} {h} {k} {before} {after} {s = s} sized roomy settles words-are =
+    let done = walked sized (roomy .room) settles in
+    let long : 2 < length w = omega (arith, sized .words) in
+    record {
+      up = done .up;
+      nack = refl;
+      lost = refl;
+      became =
+          ap (λ w. recordOf w h k) (words-are ∙ stored-headed (s .kept) w long)
+          ∙ settled-record r 0 w h k (had .up) before after s long (roomy .oldest) done;
+    }

@@ -15,32 +15,59 @@ use Rattle.larq.specs.Events.{ahead, settledAt, moved}
 use Rattle.record.specs.Place.{window, cellAt, recordWith}
 use Rattle.channel.specs.Call.{Did, parts, buffers}
 use Rattle.record.specs.Buffers.{Laid}
-use Rattle.record.specs.Walk.{earlier}
-use Rattle.channel.specs.Slots.{Missed, stamped, waitingOf}
-use Rattle.channel.specs.Steps.{Sized, Ready, walkOf, passedOf, Finished, answerOf, cellsOf, handlesWith, marksWith, IsAhead}
+use Rattle.record.specs.Walk.{earlier, waitingOf, Settles, settleNumbers}
+use Rattle.record.specs.Step.{Missed, stamped, canWiden, Widened, Widens}
+use Rattle.channel.specs.Steps.{Sized, Ready, Roomy, walkOf, Finished, answerOf, Last, Waits, Missing, cellsOf, handlesWith, marksWith, IsAhead}
+use Rattle.record.specs.Judge.{lentOf}
 use Rattle.record.specs.Moving.{recordIn, spanIn, IsGrown}
 use Rattle.channel.specs.declared.Answer.{Answer}
 use Rattle.record.specs.declared.Record.{Record}
 use Rattle.record.specs.declared.Grown.{Grown}
-use Rattle.channel.specs.declared.act.Counts.{Counts}
-use Rattle.channel.specs.declared.act.Last.{Last}
-use Rattle.channel.specs.declared.act.Last.the-variants.{Waits, Missing}
+use Rattle.record.specs.declared.step.Counts.{Counts}
+use Rattle.record.specs.declared.step.Passed.{Passed}
+use Rattle.record.specs.declared.window.Settled.{Settled}
+use Rattle.record.proofs.Stepping.{can-widen}
 use Rattle.record.proofs.Walks.{never-lost}
 use Rattle.record.proofs.Laying.{laid-length, laid-laid, wrote-front, wrote-none}
-use Rattle.channel.proofs.Waiting.{waiting-short}
-use Rattle.channel.proofs.Stamping.{length-stamped}
+use Rattle.record.proofs.Stamping.{length-stamped}
+use Rattle.channel.proofs.Places.{walked}
 use Rattle.channel.proofs.Growing.{Grows, new-cell, walk-again, past-few, span-again, walk-grown, up-room, asked-grown}
 
-length-handles : (last : Last) (s : ℕ) (l : List ℕ) → length (handlesWith last s l) ≡ length l
-length-handles (Waits x) s l = length-set l (s % 32) x
-length-handles Missing s l = refl
+-- the step can be taken, and so it is
+pub stepped : {r : Record} {W H K U N w₁ k₁ u₁ q₁ : List ℕ} {s k t : ℕ} {last : Last} {p : Passed} → Ready r W H K → IsAhead (r .current .0) s k last
+    → 32 ≤ length U → 32 ≤ length N
+    → Widens (canWiden (lentOf (length W) (length H) (length K) (length U) (length U) (length N)) (spanIn r) k (steps (r .current .0) s))
+    r s k t W H K U N w₁ k₁ u₁ q₁ p
+    → Widened r s k t W H K U N w₁ k₁ u₁ q₁ p
+stepped {r = r} {W = W} {H = H} {K = K} {U = U} {N = N} {s = s} {k = k} ready is-ahead room-up room-nack widens =
+    widens .taken
+    (can-widen {w = W} {h = H} {k = K} {u = U} {q = N} {span = spanIn r} {made = k} {d = steps (r .current .0) s}
+    (record {
+      enough = record {
+        up-room = room-up;
+        returned-room = room-up;
+        nack-room = room-nack;
+        words-sized = ready .sized .words;
+        handles-sized = ready .sized .handles;
+        marks-sized = ready .sized .marks;
+      };
+      narrow = ready .narrow;
+      few = omega (arith, is-ahead .all);
+    }))
 
-length-marks : (last : Last) (s : ℕ) (l : List ℕ) → length (marksWith last s l) ≡ length l
-length-marks (Waits x) s l = length-set l (s % 32) 1
-length-marks Missing s l = refl
+-- C has come to s: the facts of a step from which M settles.
+module _ {r : Record} {W H K U N w₁ k₁ u₁ q₁ : List ℕ} {s k t : ℕ} {last : Last} {p : Passed} (ready : Ready r W H K) (s-ring : s < 4096)
+    (is-ahead : IsAhead (r .current .0) s k last) (room-up : 32 ≤ length U) (room-nack : 32 ≤ length N)
+    (wide : Widened r s k t W H K U N w₁ k₁ u₁ q₁ p) where
+  abbrev to : Grown
+  to = p .grown
 
-module _ {r : Record} {W H K : List ℕ} {s k t : ℕ} {last : Last} {to : Grown} (ready : Ready r W H K) (s-ring : s < 4096)
-    (is-ahead : IsAhead (r .current .0) s k last) (is : IsGrown r s k t to) where
+  abbrev is : IsGrown r s k t (p .grown)
+  is = wide .grown
+
+  abbrev missed : Missed (p .grown .first .0) (p .grown .count) t W K N w₁ k₁ q₁
+  missed = wide .missed
+
   abbrev m : ℕ
   m = r .oldest .0
 
@@ -87,20 +114,19 @@ module _ {r : Record} {W H K : List ℕ} {s k t : ℕ} {last : Last} {to : Grown
       ∙ ap₂ (λ x y. accepted (x ++ again .up) [] y (to .over - length x + again .lost) (holds (moved s t again))) (sym handed-is)
       (asked-grown grows W H K (ready .sized) t (recordIn r W H K) refl)
 
-  -- M goes by no more numbers at once than it has to pass
-  pub handed-room : to .old ≤ 32
-  handed-room = omega (arith, is .old, ready .narrow)
-
-  pub handed-few : length handed ≤ to .over
-  handed-few = omega (arith, is .old, waiting-short H K m (to .old))
-
-  pub count-room : to .count ≤ 32
+  count-room : to .count ≤ 32
   count-room = omega (arith, is .count, is .over, is-ahead .near, is-ahead .all, past-few grows)
 
-  -- The calls, one after the other: those that M passes at once go up, numbers become missing, the last comes, and M settles.
-  module _ {U u₁ N w₁ k₁ q₁ h₂ k₂ : List ℕ} {end : ℕ} (room-up : 32 ≤ length U) (room-nack : 32 ≤ length N) (handing : Laid handed 0 U u₁ end)
-      (missed : Missed (to .first .0) (to .count) t W K N w₁ k₁ q₁) (handles-are : h₂ ≡ handlesWith last s H)
-      (marks-are : k₂ ≡ marksWith last s k₁) where
+  pub widened-sized : Sized w₁ H k₁
+  widened-sized =
+      record {
+        words = ap length (missed .words) ∙ length-stamped 3 t W (to .first .0) (to .count) ∙ ready .sized .words;
+        handles = ready .sized .handles;
+        marks = ap length (missed .marks) ∙ length-stamped 0 0 K (to .first .0) (to .count) ∙ ready .sized .marks;
+      }
+
+  -- The last number comes, or is missing too, and M settles.
+  module _ {h₂ k₂ : List ℕ} (handles-are : h₂ ≡ handlesWith last s H) (marks-are : k₂ ≡ marksWith last s k₁) where
     marks-all : k₂ ≡ marksWith last s (stamped 0 K (to .first .0) (to .count) 0)
     marks-all = marks-are ∙ ap (marksWith last s) (missed .marks)
 
@@ -115,30 +141,34 @@ module _ {r : Record} {W H K : List ℕ} {s k t : ℕ} {last : Last} {to : Grown
     up-few : length handed + length (again .up) ≤ 32
     up-few = rw (← handed-is) at (up-room grows W H K (ready .sized) t head)
 
-    pub settle-sized : Sized w₁ h₂ k₂
-    settle-sized =
+    none-lost : walkOf (to .kept) 0 w₁ h₂ k₂ .lost ≡ 0
+    none-lost = never-lost (to .kept .oldest .0) (window (cellAt w₁ h₂ k₂) (to .kept .oldest .0) (spanIn (to .kept)))
+
+    pub settle-room : Roomy (to .kept) (p .had) w₁ h₂ k₂ u₁
+    settle-room =
         record {
-          words = ap length (missed .words) ∙ length-stamped 3 t W (to .first .0) (to .count) ∙ ready .sized .words;
-          handles = ap length handles-are ∙ length-handles last s H ∙ ready .sized .handles;
-          marks =
-              ap length marks-all
-              ∙ length-marks last s (stamped 0 K (to .first .0) (to .count) 0)
-              ∙ length-stamped 0 0 K (to .first .0) (to .count)
-              ∙ ready .sized .marks;
+          oldest = rw (is .oldest) (forward-small m (to .over));
+          room =
+              omega (
+                arith,
+                wide .handed .end-is,
+                up-to,
+                up-few,
+                laid-length (wide .handed),
+                none-lost,
+              );
         }
 
-    pub settle-room : (to .kept .oldest .0 < 4096) × (to .over - end ≤ 4096) × (end + passedOf (to .kept) 0 w₁ h₂ k₂ ≤ length u₁)
-    settle-room = (
-      rw (is .oldest) (forward-small m (to .over)),
-      omega (arith, is .over, ready .narrow, is-ahead .near),
-      omega (arith, handing .end-is, up-to, up-few, laid-length handing, never-lost (to .kept .oldest .0) (window (cellAt w₁ h₂ k₂) (to .kept .oldest .0) (spanIn (to .kept)))),
-    )
+    -- no more goes up in the whole call than a window has
+    pub gone-few : {u₂ : List ℕ} {e : Settled}
+        → Settles (to .kept) (settleNumbers w₁ h₂ k₂ (spanIn (to .kept)) (p .had .up) u₁) 0 w₁ h₂ k₂ (p .had .up) u₁ u₂ e → Sized w₁ h₂ k₂
+        → p .had .up + e .up ≤ 32
+    gone-few settles sized = omega (arith, walked sized (settle-room .room) settles .up .end-is, wide .handed .end-is, up-to, up-few)
 
-    pub ahead-did : {w₂ u₂ : List ℕ} {had has : Counts} → had .up ≡ end → had .nack ≡ to .count → had .lost ≡ to .over - end
-        → Finished (to .kept) 0 (parts w₁ h₂ k₂) had u₁ w₂ u₂ has
+    pub ahead-did : {w₂ u₂ : List ℕ} {has : Counts} → Finished (to .kept) (parts w₁ h₂ k₂) (p .had) u₁ w₂ u₂ has
         → Did (ahead channel.window (recordIn r W H K) t s k (cellsOf last)) (parts W H K) (parts w₂ h₂ k₂) (buffers U [] N) (buffers u₂ [] q₁) (answerOf has)
-    ahead-did {u₂ = u₂} {has = has} eu en el f =
-        let all : Laid (handed ++ again .up) 0 U u₂ (has .up) = laid-laid handing (rw (walk-to, eu) at (f .up)) in
+    ahead-did {u₂ = u₂} {has = has} f =
+        let all : Laid (handed ++ again .up) 0 U u₂ (has .up) = laid-laid (wide .handed) (rw walk-to at (f .up)) in
         rw rule-ahead
         (record {
           answered = record {
@@ -146,9 +176,10 @@ module _ {r : Record} {W H K : List ℕ} {s k t : ℕ} {last : Last} {to : Grown
             up = wrote-front all (omega (arith, length-append handed (again .up), up-few));
             returned = wrote-none [];
             nack =
-                wrote-front (record { end-is = f .nack ∙ en ∙ sym (zero-add _ ∙ length-rising (to .first .0) (to .count)); buffer = missed .nack })
+                wrote-front
+                (record { end-is = f .nack ∙ wide .asked ∙ sym (zero-add _ ∙ length-rising (to .first .0) (to .count)); buffer = missed .nack })
                 (rw (length-rising (to .first .0) (to .count)) (omega (arith, room-nack, count-room)));
-            lost = f .lost ∙ ap₂ (λ x y. x + y) (el ∙ ap (λ x. to .over - x) (handing .end-is ∙ zero-add _)) (ap (λ p. p .lost) walk-to);
+            lost = omega (arith, f .lost, wide .lost, wide .handed .end-is, ap (λ p. p .lost) walk-to, none-lost);
           };
           became =
               f .became

@@ -6,7 +6,6 @@ use mathlib.Core.Logic.{_⊎_, ⊎-elim}
 use mathlib.Core.Option.{some, none}
 use mathlib.Core.List.{List, [], _∷_}
 use native.Mathlib.Omega.{arith}
-use native.Mathlib.Nat.{zero-add}
 use lib.ListN.{length, getD, set, length-set}
 use lib.Seq.{getD-set-same, getD-set-other}
 use Rattle.ring.specs.Ring.{steps}
@@ -19,10 +18,11 @@ use Rattle.record.specs.Place.{window, cellAt, recordWith, recordOf}
 use Rattle.channel.specs.Call.{Did, Says, parts, buffers}
 use Rattle.record.specs.Walk.{earlier}
 use Rattle.record.specs.Moving.{recordIn, spanIn}
-use Rattle.channel.specs.Steps.{Sized, Ready, walkOf, passedOf, Finished, nothing, answerOf, filledAt}
+use Rattle.record.specs.Step.{nothing}
+use Rattle.channel.specs.Steps.{Ready, Roomy, walkOf, Finished, answerOf, filledAt}
 use Rattle.record.specs.Judge.{MissingAt, KnownAt}
 use Rattle.channel.specs.declared.Answer.{Answer}
-use Rattle.channel.specs.declared.act.Counts.{Counts}
+use Rattle.record.specs.declared.step.Counts.{Counts}
 use Rattle.record.specs.declared.Record.{Record}
 use Rattle.record.proofs.Rounds.{slot-steps}
 use Rattle.record.proofs.Windows.{length-window, window-at, window-same, window-set, cell-waits, cell-missing}
@@ -106,19 +106,18 @@ module _ {r : Record} {W H K : List ℕ} (ready : Ready r W H K) (s x t : ℕ) w
       walk-to : walkOf to 0 W h k ≡ again
       walk-to = rw (to-current, to-oldest, handles-are, marks-are)
 
-      pub brought-sized : Sized W h k
-      brought-sized =
+      none-lost : walkOf to 0 W h k .lost ≡ 0
+      none-lost = never-lost (to .oldest .0) (window (cellAt W h k) (to .oldest .0) (spanIn to))
+
+      pub filled-room : (U : List ℕ) → 32 ≤ length U → Roomy to nothing W h k U
+      filled-room U room =
           record {
-            words = ready .sized .words;
-            handles = ap length handles-are ∙ length-set H (s % 32) x ∙ ready .sized .handles;
-            marks = ap length marks-are ∙ length-set K (s % 32) 1 ∙ ready .sized .marks;
+            oldest = rw to-oldest (ready .oldest);
+            room =
+                omega (arith, ap (λ p. length (p .up)) walk-to, few-up, none-lost);
           }
 
-      pub filled-room : (U : List ℕ) → 32 ≤ length U → 0 + passedOf to 0 W h k ≤ length U
-      filled-room U room =
-          omega (arith, ap (λ p. length (p .up)) walk-to, few-up, never-lost (to .oldest .0) (window (cellAt W h k) (to .oldest .0) (spanIn to)))
-
-      pub filled-did : {U w u : List ℕ} {n : Counts} → Finished to 0 (parts W h k) nothing U w u n → 32 ≤ length U
+      pub filled-did : {U w u : List ℕ} {n : Counts} → Finished to (parts W h k) nothing U w u n → 32 ≤ length U
           → Did (filledAt (recordIn r W H K) t s x) (parts W H K) (parts w h k) (buffers U [] []) (buffers u [] []) (answerOf n)
       filled-did f room =
           rw rule-missing
@@ -128,7 +127,7 @@ module _ {r : Record} {W H K : List ℕ} (ready : Ready r W H K) (s x t : ℕ) w
               up = wrote-front (rw walk-to at (f .up)) (omega (arith, few-up));
               returned = wrote-none [];
               nack = rw (f .nack) (wrote-none []);
-              lost = f .lost ∙ zero-add _ ∙ ap (λ p. p .lost) walk-to;
+              lost = omega (arith, f .lost, ap (λ p. p .lost) walk-to, none-lost);
             };
             became =
                 f .became

@@ -1,5 +1,5 @@
 -- What the functions inside the crate ask for and promise.
-use Prim.Native.Nat.{ℕ, _+_, _≤_, _<_, _%_}
+use Prim.Native.Nat.{ℕ, _+_, _-_, _≤_, _<_, _%_}
 use mathlib.Core.Path.{_≡_}
 use mathlib.Core.Bool.{cond}
 use mathlib.Core.List.{List, [], _∷_}
@@ -14,15 +14,13 @@ use Rattle.larq.specs.Events.{moved, filling, filled, data-on, reminder-on, sid
 use Rattle.larq.specs.Table.{Lent, notFar}
 use Rattle.record.specs.Place.{recordOf}
 use Rattle.record.specs.Buffers.{Laid}
-use Rattle.record.specs.Moving.{recordIn, spanIn}
+use Rattle.record.specs.Moving.{recordIn, spanIn, IsGrown}
 use Rattle.record.specs.Judge.{lentOf, common}
 use Rattle.record.specs.declared.Record.{Record}
 use Rattle.record.specs.Walk.{passes, walkFrom}
 use Rattle.channel.specs.Call.{Parts, Buffers}
 use Rattle.channel.specs.declared.Answer.{Answer}
-use Rattle.channel.specs.declared.act.Counts.{Counts}
-use Rattle.channel.specs.declared.act.Last.{Last}
-use Rattle.channel.specs.declared.act.Last.the-variants.{Waits, Missing}
+use Rattle.record.specs.declared.step.Counts.{Counts}
 
 -- the parts of a place are as long as they should be
 pub record Sized (w h k : List ℕ) : Type 0 where
@@ -47,10 +45,6 @@ lentAt p b =
 abbrev pub testsAt : Parts → Buffers → ℕ → ℕ → List Refusal
 testsAt p b s time = common (lentAt p b) s time (recordOf (p .words) [] (p .marks))
 
--- a place's words with C, M and the latest time put anew
-abbrev pub headed : List ℕ → ℕ → ℕ → ℕ → List ℕ
-headed words c m t = set (set (set words 0 c) 1 m) 2 t
-
 -- M's walk over the window of a record
 abbrev pub walkOf : Record → ℕ → List ℕ → List ℕ → List ℕ → Walked ℕ
 walkOf r until words handles marks = walkFrom until words handles marks (r .oldest .0) (spanIn r)
@@ -59,22 +53,27 @@ walkOf r until words handles marks = walkFrom until words handles marks (r .olde
 abbrev pub passedOf : Record → ℕ → List ℕ → List ℕ → List ℕ → ℕ
 passedOf r until words handles marks = passes (walkOf r until words handles marks)
 
--- nothing has been answered yet
-abbrev pub nothing : Counts
-nothing = record { up = 0; nack = 0; lost = 0 }
-
 -- the answer that counts make, of an accepted call that gives nothing back
 abbrev pub answerOf : Counts → Answer
 answerOf k = record { number = 0; up = k .up; returned = 0; nack = k .nack; lost = k .lost }
 
--- M has settled and the record is laid down, in a call that had answered so much before
-pub record Finished (r : Record) (until : ℕ) (p : Parts) (had : Counts) (before w after : List ℕ) (k : Counts) : Type 0 where
-  pub up : Laid (walkOf r until (p .words) (p .handles) (p .marks) .up) (had .up) before after (k .up)
-  pub nack : k .nack ≡ had .nack
-  pub lost : k .lost ≡ had .lost + walkOf r until (p .words) (p .handles) (p .marks) .lost
-  pub became : recordOf w (p .handles) (p .marks) ≡ moved (r .current .0) (r .latest) (walkOf r until (p .words) (p .handles) (p .marks))
+-- M can settle: it is a number of the ring, and what it passes has room behind what was handed up before in this call
+pub record Roomy (r : Record) (had : Counts) (w h k up : List ℕ) : Type 0 where
+  pub oldest : r .oldest .0 < 4096
+  pub room : had .up + passedOf r 0 w h k ≤ length up
 
--- how the last number of a step ahead comes
+-- M has settled and the record is laid down, in a call that had answered so much before
+pub record Finished (r : Record) (p : Parts) (had : Counts) (before w after : List ℕ) (k : Counts) : Type 0 where
+  pub up : Laid (walkOf r 0 (p .words) (p .handles) (p .marks) .up) (had .up) before after (k .up)
+  pub nack : k .nack ≡ had .nack
+  pub lost : k .lost ≡ had .lost
+  pub became : recordOf w (p .handles) (p .marks) ≡ moved (r .current .0) (r .latest) (walkOf r 0 (p .words) (p .handles) (p .marks))
+
+-- how the last number of a step ahead comes: a frame brings it, and it waits with its handle; or a reminder tells of it, and it is missing too
+pub data Last : Type 0 where
+  Waits : ℕ → Last
+  Missing : Last
+
 abbrev pub cellsOf : Last → List (Cell ℕ)
 cellsOf (Waits handle) = waits handle ∷ []
 cellsOf Missing = []

@@ -1,32 +1,26 @@
-// One place of the table: the four events on one open channel, in place.
+// One place of the table: a data frame comes to one open channel, in place. The events that bring no frame are upkeep's.
+ghost use mathlib.Core.Path.{_≡_};
 ghost use Prim.Native.Nat.{_≤_, _<_};
 ghost use mathlib.Core.List.{[]};
 ghost use lib.ListN.{length};
-ghost use Rattle.larq.specs.Events.{frame, reminder, tick, close};
+ghost use Rattle.larq.specs.Events.{frame};
 ghost use Rattle.channel.specs.Call.{Says, Did, Called, parts, buffers};
 ghost use Rattle.record.specs.Moving.{recordIn};
-ghost use Rattle.channel.specs.Steps.{Ready, dataAt, reminderAt};
+ghost use Rattle.channel.specs.Steps.{Ready, answerOf, dataAt};
 
 mod act;
-mod window;
 
-use crate::act::Counts;
-use crate::act::Last;
 use crate::act::ahead;
-use crate::act::closed;
 use crate::act::filled;
 use crate::act::handed_up;
-use crate::act::noted;
 use crate::act::restarted;
 use crate::act::sent_back;
-use crate::act::settle;
-use crate::act::stale_before;
+use record::Counts;
 use record::Judged;
 use record::Record;
 use record::Spot;
 use record::judge;
 use ring::Seq;
-use ring::Side;
 
 // What a call answers: the number, how many entries of each buffer it wrote, and how many numbers it gave up.
 #[repr(C)]
@@ -48,6 +42,19 @@ pub fn refused(number: u8) -> Answer
         returned: 0,
         nack: 0,
         lost: 0,
+    }
+}
+
+// The answer of an accepted call that gives nothing back.
+pub fn accepted(counts: Counts) -> Answer
+    ensures { λ a. ⌜ a ≡ answerOf counts ⌝ }
+{
+    Answer {
+        number: 0,
+        up: counts.up,
+        returned: 0,
+        nack: counts.nack,
+        lost: counts.lost,
     }
 }
 
@@ -117,7 +124,7 @@ fn arrive(
         (buffers (now (up .exit)) (now (returned .exit)) (now (nack .exit))) a ⌝ }
 {
     match r.spot(marks, s) {
-        Spot::Ahead(d) => ahead(
+        Spot::Ahead(d) => accepted(ahead(
             r,
             words,
             handles,
@@ -126,155 +133,12 @@ fn arrive(
             nack,
             s,
             d - 1,
-            Last::Waits(handle),
+            handle,
             time,
-        ).answer(),
+        )),
         Spot::Next => handed_up(words, up, s, handle, time),
-        Spot::Missing => filled(r, words, handles, marks, up, s, handle, time).answer(),
+        Spot::Missing => accepted(filled(r, words, handles, marks, up, s, handle, time)),
         Spot::Known => sent_back(words, returned, handle, time),
         Spot::Far => restarted(r, words, handles, marks, up, returned, s, handle, time),
-    }
-}
-
-// A reminder comes to a record that no common number refuses it: it tells of numbers ahead, changes only the latest time, or is from far.
-fn remind(
-    r: Record,
-    words: &mut [u64],
-    handles: &mut [u32],
-    marks: &mut [u8],
-    up: &mut [u32],
-    nack: &mut [u16],
-    s: Seq,
-    time: u64,
-) -> Answer
-    requires { ⌜ Ready r (now words) (now handles) (now marks) × (s .0 < 4096) ⌝ }
-    requires { ⌜ (32 ≤ length (now up)) × (32 ≤ length (now nack)) ⌝ }
-    ensures { λ a. ⌜ Did (reminderAt (recordIn r (now (words .entry)) (now (handles .entry)) (now (marks .entry))) time (s .0))
-        (parts (now (words .entry)) (now (handles .entry)) (now (marks .entry)))
-        (parts (now (words .exit)) (now (handles .exit)) (now (marks .exit)))
-        (buffers (now (up .entry)) [] (now (nack .entry)))
-        (buffers (now (up .exit)) [] (now (nack .exit))) a ⌝ }
-{
-    let c = r.current;
-    match c.seen(s) {
-        Side::Ahead(d) => ahead(
-            r,
-            words,
-            handles,
-            marks,
-            up,
-            nack,
-            s,
-            d,
-            Last::Missing,
-            time,
-        ).answer(),
-        Side::Behind(_) => noted(words, time),
-        Side::Far => refused(8),
-    }
-}
-
-// A reminder comes to the open place.
-pub fn reminder(
-    words: &mut [u64],
-    handles: &mut [u32],
-    marks: &mut [u8],
-    up: &mut [u32],
-    returned: &mut [u32],
-    nack: &mut [u16],
-    number: u16,
-    time: u64,
-) -> Answer
-    ensures { λ r. ⌜ Called (reminder number) time
-        (parts (now (words .entry)) (now (handles .entry)) (now (marks .entry)))
-        (parts (now (words .exit)) (now (handles .exit)) (now (marks .exit)))
-        (buffers (now (up .entry)) (now (returned .entry)) (now (nack .entry)))
-        (buffers (now (up .exit)) (now (returned .exit)) (now (nack .exit))) r ⌝ }
-{
-    match judge(
-        words,
-        marks,
-        handles.len(),
-        up.len(),
-        returned.len(),
-        nack.len(),
-        number,
-        time,
-    ) {
-        Judged::Refused(n) => refused(n),
-        Judged::Open(r) => remind(r, words, handles, marks, up, nack, Seq(number), time),
-    }
-}
-
-// A tick comes to the open place.
-pub fn tick(
-    words: &mut [u64],
-    handles: &mut [u32],
-    marks: &mut [u8],
-    up: &mut [u32],
-    returned: &mut [u32],
-    nack: &mut [u16],
-    time: u64,
-) -> Answer
-    ensures { λ r. ⌜ Called tick time
-        (parts (now (words .entry)) (now (handles .entry)) (now (marks .entry)))
-        (parts (now (words .exit)) (now (handles .exit)) (now (marks .exit)))
-        (buffers (now (up .entry)) (now (returned .entry)) (now (nack .entry)))
-        (buffers (now (up .exit)) (now (returned .exit)) (now (nack .exit))) r ⌝ }
-{
-    match judge(
-        words,
-        marks,
-        handles.len(),
-        up.len(),
-        returned.len(),
-        nack.len(),
-        0,
-        time,
-    ) {
-        Judged::Refused(n) => refused(n),
-        Judged::Open(r) => {
-            let kept = r.arrived(r.current, time);
-            settle(
-                kept,
-                words,
-                handles,
-                marks,
-                up,
-                Counts::NONE,
-                stale_before(time),
-            ).answer()
-        }
-    }
-}
-
-// A close comes to the open place, which is then free.
-pub fn close(
-    words: &mut [u64],
-    handles: &mut [u32],
-    marks: &mut [u8],
-    up: &mut [u32],
-    returned: &mut [u32],
-    nack: &mut [u16],
-    time: u64,
-) -> Answer
-    ensures { λ r. ⌜ Called close time
-        (parts (now (words .entry)) (now (handles .entry)) (now (marks .entry)))
-        (parts (now (words .exit)) (now (handles .exit)) (now (marks .exit)))
-        (buffers (now (up .entry)) (now (returned .entry)) (now (nack .entry)))
-        (buffers (now (up .exit)) (now (returned .exit)) (now (nack .exit))) r ⌝ }
-{
-    match judge(
-        words,
-        marks,
-        handles.len(),
-        up.len(),
-        returned.len(),
-        nack.len(),
-        0,
-        time,
-    ) {
-        Judged::Refused(n) => refused(n),
-        Judged::Open(r) => closed(r, words, handles, marks, returned),
     }
 }

@@ -5,9 +5,7 @@ use mathlib.Core.Bool.{Bool, true, false}
 use mathlib.Core.List.{List, [], _∷_, _++_}
 use native.Mathlib.Omega.{arith}
 use lib.ListN.{length, replicate}
-use Rattle.ring.specs.Ring.{size, forward, next, steps}
-use Rattle.ring.specs.declared.Side.{Side}
-use Rattle.ring.specs.declared.Side.the-variants.{Ahead, Behind, Far}
+use Rattle.ring.specs.Ring.{size, forward, next, steps, Side, Ahead, Behind, Far}
 use Rattle.ring.proofs.Sides.{Seen, sees}
 use Rattle.ring.proofs.Steps.{steps-self}
 use Rattle.larq.specs.Channel.{Cell, waits, missing, Channel, headMissing, reach}

@@ -8,9 +8,7 @@ use mathlib.Core.List.{List, [], _∷_, _++_}
 use native.Mathlib.Omega.{arith}
 use borrow.Author.Tests.{leb-true}
 use lib.ListN.{length, take, drop, replicate, length-append, length-replicate, length-drop}
-use Rattle.ring.specs.Ring.{steps, forward, next}
-use Rattle.ring.specs.declared.Side.{Side}
-use Rattle.ring.specs.declared.Side.the-variants.{Ahead, Behind, Far}
+use Rattle.ring.specs.Ring.{steps, forward, next, Side, Ahead, Behind, Far}
 use Rattle.ring.proofs.Sides.{Seen, sees}
 use Rattle.ring.proofs.Steps.{length-rising}
 use Rattle.larq.specs.Channel.{Cell, waits, missing, Channel, waiting, headMissing, reach}

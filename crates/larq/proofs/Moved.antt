@@ -7,9 +7,7 @@ use mathlib.Core.Option.{Option, some, none}
 use mathlib.Core.List.{List, [], _∷_}
 use native.Mathlib.Omega.{arith}
 use lib.ListN.{length, getD, take, drop, length-append, length-replicate}
-use Rattle.ring.specs.Ring.{size, forward, next, steps, rising}
-use Rattle.ring.specs.declared.Side.{Side}
-use Rattle.ring.specs.declared.Side.the-variants.{Ahead, Behind, Far}
+use Rattle.ring.specs.Ring.{size, forward, next, steps, rising, Side, Ahead, Behind, Far}
 use Rattle.ring.proofs.Sides.{Seen, sees}
 use Rattle.ring.proofs.Steps.{forward-small, forward-forward, steps-forward, length-rising}
 use Rattle.larq.specs.Channel.{Cell, waits, missing, Channel, waiting, times, reach}

@@ -9,9 +9,7 @@ use native.Mathlib.Omega.{arith}
 use native.Mathlib.Decide.{decLt}
 use lib.ListN.{length, take, drop, replicate, length-append, length-replicate, length-drop}
 use lib.Dec.{eqb, eqb·suc-zero}
-use Rattle.ring.specs.Ring.{size, forward, next, steps, seen}
-use Rattle.ring.specs.declared.Side.{Side}
-use Rattle.ring.specs.declared.Side.the-variants.{Ahead, Behind, Far}
+use Rattle.ring.specs.Ring.{size, forward, next, steps, seen, Side, Ahead, Behind, Far}
 use Rattle.ring.proofs.Sides.{seen-above, seen-below}
 use Rattle.ring.proofs.Steps.{next-mod, forward-mod, steps-up, steps-down}
 use Rattle.larq.specs.Channel.{Cell, waits, missing, Channel, waiting, sound, reach}

@@ -8,9 +8,7 @@ use mathlib.Core.List.{List, [], _∷_, _++_, map}
 use lib.ListN.{length, replicate, length-map}
 use lib.Dec.{ltb}
 use Rattle.wire.specs.Refusals.{Refusal, answered}
-use Rattle.ring.specs.Ring.{next, steps, rising}
-use Rattle.ring.specs.declared.Side.{Side}
-use Rattle.ring.specs.declared.Side.the-variants.{Ahead, Behind, Far}
+use Rattle.ring.specs.Ring.{next, steps, rising, Side, Ahead, Behind, Far}
 use Rattle.larq.specs.Channel.{Cell, waits, missing, Channel, waiting, times, headMissing, sound}
 use Rattle.larq.specs.Settling.{Walked, walk, wide, stale, stays, handing, losing}
 use Rattle.larq.specs.Answer.{Answer, Change, same, holds, freed, Outcome, refused}

@@ -6,9 +6,7 @@ use mathlib.Core.Bool.{Bool, true, false, cond, _&&_, and-false}
 use mathlib.Core.List.{List, [], _∷_, map}
 use mathlib.Core.Option.{Option, some, none}
 use lib.Dec.{eqb, eqb·suc-zero}
-use Rattle.ring.specs.Ring.{steps}
-use Rattle.ring.specs.declared.Side.{Side}
-use Rattle.ring.specs.declared.Side.the-variants.{Ahead, Behind, Far}
+use Rattle.ring.specs.Ring.{steps, Side, Ahead, Behind, Far}
 use Rattle.larq.specs.Channel.{Cell, Channel, waiting}
 use Rattle.larq.specs.Answer.{Answer, Change, same, holds, freed, Outcome, refused, accepted}
 use Rattle.larq.specs.Events.{Act, frame, reminder, tick, close, opened, sideOf, restarted, data-on, reminder-on, filled, filling, act-on}

@@ -5,9 +5,7 @@ use mathlib.Core.Path.{_≡_, refl, ap, _∙_}
 use mathlib.Core.Bool.{Bool, true}
 use mathlib.Core.Option.{Option, some, none}
 use mathlib.Core.List.{List, [], _∷_}
-use Rattle.ring.specs.Ring.{steps}
-use Rattle.ring.specs.declared.Side.{Side}
-use Rattle.ring.specs.declared.Side.the-variants.{Ahead, Behind, Far}
+use Rattle.ring.specs.Ring.{steps, Side, Ahead, Behind, Far}
 use Rattle.larq.specs.Channel.{Cell, Channel}
 use Rattle.larq.specs.Answer.{Outcome, refused}
 use Rattle.larq.specs.Events.{Act, frame, reminder, tick, close, filling, filled, data-on, reminder-on, sideOf, act-on}

@@ -9,9 +9,7 @@ use native.Mathlib.Omega.{arith}
 use lib.ListN.{length, replicate}
 use lib.Dec.{eqb, eqb·suc-zero}
 use Rattle.wire.proofs.ByCases.{cond-case}
-use Rattle.ring.specs.Ring.{next, steps}
-use Rattle.ring.specs.declared.Side.{Side}
-use Rattle.ring.specs.declared.Side.the-variants.{Ahead, Behind, Far}
+use Rattle.ring.specs.Ring.{next, steps, Side, Ahead, Behind, Far}
 use Rattle.larq.specs.Channel.{Cell, waits, missing, Channel, waiting}
 use Rattle.larq.specs.Settling.{Walked, walk, wide, stale, stays, losing}
 use Rattle.larq.specs.Answer.{Answer, Change, same, holds, freed, Outcome, refused}

@@ -5,9 +5,7 @@ use mathlib.Core.Bool.{Bool, true, false, cond, _&&_, not}
 use mathlib.Core.Option.{Option, some, none}
 use mathlib.Core.List.{List, [], _∷_}
 use lib.Dec.{eqb}
-use Rattle.ring.specs.Ring.{steps}
-use Rattle.ring.specs.declared.Side.{Side}
-use Rattle.ring.specs.declared.Side.the-variants.{Ahead, Behind, Far}
+use Rattle.ring.specs.Ring.{steps, Side, Ahead, Behind, Far}
 use Rattle.larq.specs.Channel.{Cell, waits, Channel}
 use Rattle.larq.specs.Answer.{Answer}
 use Rattle.larq.specs.Events.{Act, frame, reminder, tick, close, grown, filling, sideOf}

@@ -6,9 +6,7 @@ use mathlib.Core.Option.{Option, some, none}
 use mathlib.Core.List.{List, [], _∷_, _++_}
 use lib.ListN.{length, replicate}
 use lib.Dec.{ltb}
-use Rattle.ring.specs.Ring.{next, steps, rising, seen}
-use Rattle.ring.specs.declared.Side.{Side}
-use Rattle.ring.specs.declared.Side.the-variants.{Ahead, Behind, Far}
+use Rattle.ring.specs.Ring.{next, steps, rising, seen, Side, Ahead, Behind, Far}
 use Rattle.larq.specs.Channel.{Cell, waits, missing, Channel, waiting, reach}
 use Rattle.larq.specs.Settling.{Walked, walk, wide, stale}
 use Rattle.larq.specs.Answer.{Change, holds, freed, Outcome, accepted}

@@ -5,8 +5,7 @@ use mathlib.Core.Bool.{Bool, true, false, cond, _&&_, _||_}
 use mathlib.Core.List.{List, [], _∷_}
 use lib.Dec.{leb, eqb}
 use Rattle.wire.specs.Refusals.{Refusal, _else_, answered}
-use Rattle.ring.specs.declared.Side.{Side}
-use Rattle.ring.specs.declared.Side.the-variants.{Ahead, Behind, Far}
+use Rattle.ring.specs.Ring.{Side, Ahead, Behind, Far}
 use Rattle.larq.specs.Channel.{Channel, sound}
 use Rattle.larq.specs.Answer.{Change, same, holds, freed, Outcome, refused, accepted}
 use Rattle.larq.specs.Events.{Act, frame, reminder, tick, close, opened, sideOf, act-on}

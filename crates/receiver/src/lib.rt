@@ -2,10 +2,11 @@
 // Each call decides on what is lent where it goes, and then changes one place. What comes in from the line stands in `arrivals`, by itself
 // so that each crate is checked within a minute.
 
+mod ticks;
 mod writes;
 
 ghost use mathlib.Core.Path.{_≡_};
-ghost use Rattle.larq.specs.Events.{tick, close};
+ghost use Rattle.larq.specs.Events.{close};
 ghost use Rattle.channel.specs.Call.{buffers};
 ghost use Rattle.table.specs.Key.{keyOf};
 ghost use Rattle.table.specs.Table.{slices};
@@ -18,58 +19,8 @@ use table::SLOTS;
 use table::WORDS;
 use table::Way;
 use table::way_of;
+pub use ticks::tick;
 use writes::free_key;
-
-// Time has passed: numbers that are missing for 150 ticks or more are given up.
-pub fn tick(
-    keys: &[u64],
-    words: &mut [u64],
-    handles: &mut [u32],
-    marks: &mut [u8],
-    up: &mut [u32],
-    returned: &mut [u32],
-    nack: &mut [u16],
-    destination: &[u8; 6],
-    source: &[u8; 6],
-    priority: u8,
-    time: u64,
-) -> Answer
-    ensures { λ r. ⌜ Call (keyOf (now (destination .entry)) (now (source .entry)) priority) time tick
-        (slices (now (keys .entry)) (now (words .entry)) (now (handles .entry)) (now (marks .entry)))
-        (slices (now (keys .entry)) (now (words .exit)) (now (handles .exit)) (now (marks .exit)))
-        (buffers (now (up .entry)) (now (returned .entry)) (now (nack .entry)))
-        (buffers (now (up .exit)) (now (returned .exit)) (now (nack .exit))) r ⌝ }
-{
-    let way = way_of(
-        keys,
-        words.len(),
-        handles.len(),
-        marks.len(),
-        up.len(),
-        returned.len(),
-        nack.len(),
-        0,
-        destination,
-        source,
-        priority,
-    );
-    match way {
-        Way::Known(i) => {
-            let from = WORDS * i;
-            let slot = SLOTS * i;
-            channel::tick(
-                &mut words[from..from + WORDS],
-                &mut handles[slot..slot + SLOTS],
-                &mut marks[slot..slot + SLOTS],
-                up,
-                returned,
-                nack,
-                time,
-            )
-        }
-        Way::Refused(n) => refused(n),
-    }
-}
 
 // The channel ends: what waits comes back, and its place is free.
 pub fn close(
@@ -108,7 +59,7 @@ pub fn close(
         Way::Known(i) => {
             let from = WORDS * i;
             let slot = SLOTS * i;
-            let answer = channel::close(
+            let answer = upkeep::close(
                 &mut words[from..from + WORDS],
                 &mut handles[slot..slot + SLOTS],
                 &mut marks[slot..slot + SLOTS],

@@ -8,3 +8,6 @@ pub mod Appending
 pub mod Laying
 pub mod Walks
 pub mod Settling
+pub mod Waiting
+pub mod Stamping
+pub mod Stepping

@@ -2,8 +2,7 @@
 use Prim.Native.Nat.{ℕ}
 use mathlib.Core.Path.{_≡_}
 use native.Mathlib.Omega.{arith}
-use Rattle.ring.specs.Ring.{steps, seen}
-use Rattle.ring.specs.declared.Side.the-variants.{Ahead}
+use Rattle.ring.specs.Ring.{steps, seen, Ahead}
 use Rattle.ring.proofs.Sides.{is-ahead}
 use Rattle.larq.specs.Channel as channel
 use Rattle.larq.specs.Channel.{reach}

@@ -3,3 +3,4 @@ pub mod Buffers
 pub mod Moving
 pub mod Judge
 pub mod Walk
+pub mod Step

@@ -1,7 +1,10 @@
 -- What a record by value means, and what a step ahead does to its window.
 use Prim.Native.Nat.{ℕ, _+_, _-_}
 use mathlib.Core.Path.{_≡_}
+use mathlib.Core.Bool.{cond}
 use mathlib.Core.List.{List}
+use lib.ListN.{length, set}
+use lib.Dec.{ltb}
 use Rattle.ring.specs.Ring.{forward, steps}
 use Rattle.larq.specs.Channel.{Channel}
 use Rattle.record.specs.Place.{spanOf, recordWith}
@@ -15,6 +18,14 @@ recordIn r words handles marks = recordWith (r .current .0) (r .oldest .0) (r .l
 -- its span
 abbrev pub spanIn : Record → ℕ
 spanIn r = spanOf (r .current .0) (r .oldest .0)
+
+-- a place's words with C, M and the latest time put anew
+abbrev pub headed : List ℕ → ℕ → ℕ → ℕ → List ℕ
+headed words c m t = set (set (set words 0 c) 1 m) 2 t
+
+-- the words when the record is laid down in them, where there are so many
+abbrev pub storedIn : Record → List ℕ → List ℕ
+storedIn r words = cond (ltb 2 (length words)) (headed words (r .current .0) (r .oldest .0) (r .latest)) words
 
 -- a step ahead to s, by which so many numbers become missing: the window when M has passed what is then too much
 pub record IsGrown (r : Record) (s made time : ℕ) (g : Grown) : Type 0 where

@@ -1,10 +1,11 @@
--- M's walk over the slots of a place. Document 01, 'Settling' and 'Tick'.
+-- M's walk over the slots of a place, and the handles that wait there. Document 01, 'Settling', 'Tick', 'Data' and 'Close'.
 use Prim.Native.Nat.{ℕ, _+_, _-_}
 use mathlib.Core.Path.{_≡_}
-use mathlib.Core.Bool.{Bool, cond}
-use mathlib.Core.List.{List}
+use mathlib.Core.Bool.{Bool, cond, _&&_}
+use mathlib.Core.List.{List, []}
 use lib.ListN.{length}
-use lib.Dec.{ltb}
+use lib.Dec.{ltb, leb}
+use Rattle.larq.specs.Channel.{waiting}
 use Rattle.larq.specs.Settling.{Walked, walk}
 use Rattle.record.specs.Place.{window, cellAt, placeSized}
 use Rattle.record.specs.Buffers.{Laid}
@@ -38,3 +39,11 @@ most n room = n - (n - room)
 -- over how many of n numbers M walks: as many as there is room for from `at` on, and none where the parts are not those of a place
 abbrev pub settleNumbers : List ℕ → List ℕ → List ℕ → ℕ → ℕ → List ℕ → ℕ
 settleNumbers w h k n at up = cond (placeSized (length w) (length h) (length k)) (most n (length up - at)) 0
+
+-- the waiting handles of n numbers from m on, in sequence order: the times of missing numbers have no part in it
+abbrev pub waitingOf : List ℕ → List ℕ → ℕ → ℕ → List ℕ
+waitingOf handles marks m n = waiting (window (cellAt [] handles marks) m n)
+
+-- of how many of n numbers the waiting handles are laid down: of all, or of none where the slots are not those of a place or n have no room
+abbrev pub handNumbers : List ℕ → List ℕ → ℕ → List ℕ → ℕ
+handNumbers h k n out = cond (placeSized 35 (length h) (length k) && leb n (length out)) n 0

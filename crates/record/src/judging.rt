@@ -8,15 +8,16 @@ ghost use Rattle.larq.specs.Table.{lentEnough};
 ghost use Rattle.record.specs.Place.{soundAt};
 ghost use Rattle.record.specs.Judge.{lentOf, inRing, timesOf, inShape, Judges, LiesAt};
 use crate::Record;
+use crate::SLOTS;
+use crate::WORDS;
 use crate::is_whole;
 use crate::slot;
 use larq::WINDOW;
 use ring::Seq;
-use ring::Side;
 use wire::octet;
 
 // Whether the parts and the buffers are as long as they should be: number 1.
-fn lent_enough(
+pub(crate) fn lent_enough(
     words: usize,
     handles: usize,
     marks: usize,
@@ -100,7 +101,7 @@ impl Record {
 pub fn is_sound(words: &[u64], marks: &[u8]) -> bool
     ensures { λ r. ⌜ r ≡ soundAt (now (words .entry)) (now (marks .entry)) ⌝ }
 {
-    if !((words.len() == 35) & (marks.len() == 32)) {
+    if !((words.len() == WORDS) & (marks.len() == SLOTS)) {
         return false;
     }
     if !in_ring(words) {
@@ -163,20 +164,21 @@ impl Record {
         if (s.0 == m.0) & (n == 0) {
             return Spot::Next;
         }
-        match c.seen(s) {
-            Side::Ahead(d) => Spot::Ahead(d),
-            Side::Behind(_) => {
-                if n <= m.steps(s) {
-                    return Spot::Known;
-                }
-                let j = slot(s);
-                if octet(marks, j) == 0 {
-                    Spot::Missing
-                } else {
-                    Spot::Known
-                }
-            }
-            Side::Far => Spot::Far,
+        let d = c.distance(s);
+        if d.is_far() {
+            return Spot::Far;
+        }
+        if d.is_ahead() {
+            return Spot::Ahead(c.steps(s));
+        }
+        if n <= m.steps(s) {
+            return Spot::Known;
+        }
+        let j = slot(s);
+        if octet(marks, j) == 0 {
+            Spot::Missing
+        } else {
+            Spot::Known
         }
     }
 }

@@ -1,12 +1,14 @@
 // A channel's record by value: C, M and the latest time. Its cells stay in the lent parts (document 01, 'The channel table').
-// What becomes of its window is said here; what is decided of an event, in judging.rt; the settling loop, in window.rt.
+// What becomes of its window is said here; what is decided of an event, in judging.rt; the step ahead, in step.rt; the other
+// loops over a window's slots, in window.rt.
 ghost use mathlib.Core.Path.{_≡_};
 ghost use Prim.Native.Nat.{_-_, _%_};
 ghost use Rattle.ring.specs.Ring.{forward, next};
 ghost use Rattle.record.specs.Place.{spanOf, placeSized};
-ghost use Rattle.record.specs.Moving.{IsGrown};
+ghost use Rattle.record.specs.Moving.{IsGrown, storedIn};
 
 mod judging;
+mod step;
 mod window;
 
 pub use judging::Judged;
@@ -15,7 +17,16 @@ pub use judging::is_sound;
 pub use judging::judge;
 use larq::WINDOW;
 use ring::Seq;
+pub use step::Counts;
+pub use step::Passed;
+pub use window::NEVER;
 pub use window::Settled;
+pub use window::hand;
+
+// How many words a place has, and how many slots: a handle and a mark each.
+pub const WORDS: usize = 35;
+
+pub const SLOTS: usize = 32;
 
 pub struct Record {
     pub current: Seq,
@@ -44,7 +55,7 @@ pub fn slot(n: Seq) -> usize
 pub(crate) fn is_whole(words: usize, handles: usize, marks: usize) -> bool
     ensures { λ r. ⌜ r ≡ placeSized words handles marks ⌝ }
 {
-    (words == 35) & ((handles == 32) & (marks == 32))
+    (words == WORDS) & ((handles == SLOTS) & (marks == SLOTS))
 }
 
 // By how much a exceeds b, or 0.
@@ -92,6 +103,19 @@ impl Record {
         self.current = s;
         self.latest = time;
         self
+    }
+
+    // C, M and the latest time are laid down in a place's words, where there are so many.
+    pub fn stored(self, words: &mut [u64])
+        ensures { λ _. ⌜ now (words .exit) ≡ storedIn self (now (words .entry)) ⌝ }
+    {
+        if 2 < words.len() {
+            let c = self.current;
+            let m = self.oldest;
+            words[0] = c.0 as u64;
+            words[1] = m.0 as u64;
+            words[2] = self.latest;
+        }
     }
 
     // C comes to s at this time, with `made` numbers from C + 1 on missing, and M passes what is then too much for the window.

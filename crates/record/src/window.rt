@@ -1,13 +1,16 @@
-// The settling loop over the window, in place (document 01, 'Settling' and 'Tick').
+// The loops that pass or read the numbers of a window, in place (document 01, 'Settling', 'Tick' and what is said of waiting handles).
 ghost use mathlib.Core.Path.{_≡_};
 ghost use mathlib.Core.Bool.{cond};
 ghost use Prim.Native.Nat.{_-_};
 ghost use lib.ListN.{length};
-ghost use Rattle.record.specs.Moving.{spanIn};
-ghost use Rattle.record.specs.Walk.{Settles, most, settleNumbers};
+ghost use Rattle.record.specs.Moving.{spanIn, storedIn};
+ghost use Rattle.record.specs.Walk.{Settles, most, settleNumbers, handNumbers, waitingOf};
+ghost use Rattle.record.specs.Buffers.{Laid};
 use crate::Record;
+use crate::WORDS;
 use crate::is_whole;
 use crate::slot;
+use ring::Seq;
 
 // A record whose M has moved on, how many handles went up, and how many numbers were given up.
 pub struct Settled {
@@ -15,6 +18,9 @@ pub struct Settled {
     pub up: usize,
     pub lost: usize,
 }
+
+// No time lies before 0: until then nothing is missing for too long.
+pub const NEVER: u64 = 0;
 
 // How many entries a buffer has from `at` on.
 fn room_from(at: usize, length: usize) -> usize
@@ -79,4 +85,48 @@ impl Record {
             lost: lost,
         }
     }
+
+    // M settles, and the record that is left is laid down in the place.
+    pub fn settle(
+        self,
+        words: &mut [u64],
+        handles: &[u32],
+        marks: &[u8],
+        up: &mut [u32],
+        at: usize,
+        until: u64,
+    ) -> Settled
+        ensures { λ s. ⌜ Settles self (settleNumbers (now (words .entry)) (now (handles .entry)) (now (marks .entry)) (spanIn self) at (now (up .entry))) until
+            (now (words .entry)) (now (handles .entry)) (now (marks .entry)) at (now (up .entry)) (now (up .exit)) s ⌝ }
+        ensures { λ s. ⌜ now (words .exit) ≡ storedIn (s .kept) (now (words .entry)) ⌝ }
+    {
+        let done = self.settled(words, handles, marks, up, at, until);
+        let kept = done.kept;
+        kept.stored(words);
+        done
+    }
+}
+
+// Lays the handles that wait among n numbers from `from` on into `out`: how many they are. It lays none where the slots are not those of a place
+// or n of them have no room.
+pub fn hand(handles: &[u32], marks: &[u8], from: Seq, n: u16, out: &mut [u32]) -> usize
+    ensures { λ r. ⌜ Laid (waitingOf (now (handles .entry)) (now (marks .entry)) (from .0) (handNumbers (now (handles .entry)) (now (marks .entry)) n (now (out .entry))))
+        0 (now (out .entry)) (now (out .exit)) r ⌝ }
+{
+    let mut left = all_or_none(
+        is_whole(WORDS, handles.len(), marks.len()) & (n as usize <= out.len()),
+        n,
+    );
+    let mut to: usize = 0;
+    let mut i = from;
+    while 0 < left {
+        let j = slot(i);
+        if marks[j] != 0 {
+            out[to] = handles[j];
+            to += 1;
+        }
+        i = i.forward(1);
+        left -= 1;
+    }
+    to
 }

@@ -4,9 +4,7 @@ use Prim.Native.Nat.{ℕ}
 use mathlib.Core.Path.{_≡_, refl}
 use mathlib.Core.List.{List, [], _∷_, map}
 use lib.IntN.{ℤ, pos, negℤ}
-use Rattle.ring.specs.Ring.{distance, side, seen}
-use Rattle.ring.specs.declared.Side.{Side}
-use Rattle.ring.specs.declared.Side.the-variants.{Ahead, Behind, Far}
+use Rattle.ring.specs.Ring.{distance, side, seen, Side, Ahead, Behind, Far}
 
 -- from one number to another: how far apart, and on which side by the reach of 64
 pub record Case : Type 0 where

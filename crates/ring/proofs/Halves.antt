@@ -4,7 +4,7 @@ use Prim.Native.Nat.{ℕ, suc, _+_, _-_, _%_, _≤_, _<_}
 use mathlib.Core.Path.{_≡_, sym, ap, _∙_, subst}
 use native.Mathlib.Omega.{arith}
 use native.Mathlib.Decide.{decLt}
-use lib.IntN.{ℤ, pos, negsuc}
+use lib.IntN.{ℤ, pos, negsuc, subℕ}
 use borrow.Author.Tests.{lt-ltb, le-ltb}
 use Rattle.ring.specs.Ring.{size, half, forward, steps, signed, distance}
 
@@ -13,6 +13,15 @@ lower n h = rw (lt-ltb n half h)
 
 pub upper : (n k : ℕ) → half ≤ n → n + suc k ≡ size → signed n ≡ negsuc k
 upper n k h e = rw (le-ltb n half h, lt-ltb n size (omega arith)) (ap negsuc (omega arith))
+
+-- the same with no case: half a round forward, and half a round back
+pub half-on-and-back : (n : ℕ) → n < size → subℕ ((n + half) % size) half ≡ signed n
+half-on-and-back n small = by-half (decLt n half)
+  where
+    by-half : Dec (n < half) → subℕ ((n + half) % size) half ≡ signed n
+    by-half (yes h) = rw (lower n h, le-ltb ((n + half) % size) half (omega arith)) (ap pos (omega arith))
+    by-half (no h) =
+        rw (upper n (size - suc n) (omega arith) (omega arith), lt-ltb ((n + half) % size) half (omega arith)) (ap negsuc (omega arith))
 
 -- a number of -2,048 to 2,047 leads from a to b: so many steps forward from a, or from b where it is below 0
 abbrev pub Leads : ℕ → ℕ → ℤ → Type 0

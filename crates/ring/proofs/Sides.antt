@@ -1,14 +1,14 @@
--- Where a number lies, told in natural numbers: the one case law by which a caller takes `seen` apart, and the laws that lead from a
--- number of steps to `seen`. The reach is any number below half the ring; signed numbers stay inside this crate.
+-- Where a number lies, told in natural numbers: the one case law by which a caller takes `seen` apart, and the laws that lead to `seen`
+-- from a number of steps and from the tests of the code. The reach is any number below half the ring; signed numbers stay inside this crate.
 -- Document 01, 'Numbers in a ring of 4,096' and 'The four channel events': d from 1 to 64, d from -64 to 0, else.
 use Prim.Native.Nat.{ℕ, zero, suc, _+_, _-_, _%_, _≤_, _<_}
 use mathlib.Core.Path.{_≡_, refl, sym, ap, _∙_, subst}
+use mathlib.Core.Bool.{true, false}
 use native.Mathlib.Omega.{arith}
 use native.Mathlib.Decide.{decLt}
+use lib.Dec.{T}
 use borrow.Author.Tests.{lt-ltb, le-ltb}
-use Rattle.ring.specs.Ring.{size, half, steps, signed, distance, side, seen}
-use Rattle.ring.specs.declared.Side.{Side}
-use Rattle.ring.specs.declared.Side.the-variants.{Ahead, Behind, Far}
+use Rattle.ring.specs.Ring.{size, half, steps, signed, distance, side, seen, Side, Ahead, Behind, Far, isFar, isAhead}
 use Rattle.ring.proofs.Steps.{steps-mod, steps-up}
 use Rattle.ring.proofs.Halves.{lower, upper}
 
@@ -92,6 +92,32 @@ module _ (reach c s : ℕ) (short : reach < half) where
 
   pub told : {x : Side} → seen reach c s ≡ x → Seen reach c s x
   told e = subst (Seen reach c s) e sees
+
+-- From the two tests of the code, by the reach of 64, to the side.
+far-side : (x : Side) → isFar x ≡ true → x ≡ Far
+far-side (Ahead d) h = cc
+far-side (Behind d) h = cc
+far-side Far h = refl
+
+behind-side : (x : Side) → isFar x ≡ false → isAhead x ≡ false → (d : ℕ) × (x ≡ Behind d)
+behind-side (Ahead d) f h = absurd (subst T h tt)
+behind-side (Behind d) f h = (d, refl)
+behind-side Far f h = absurd (subst T f tt)
+
+module _ (a b : ℕ) where
+  ahead-side : (x : Side) → Seen 64 a b x → isAhead x ≡ true → x ≡ Ahead (steps a b)
+  ahead-side (Ahead d) s h = ap Ahead (sym (s .is))
+  ahead-side (Behind d) s h = cc
+  ahead-side Far s h = cc
+
+  pub seen-far : isFar (seen 64 a b) ≡ true → seen 64 a b ≡ Far
+  seen-far = far-side (seen 64 a b)
+
+  pub seen-ahead : isAhead (seen 64 a b) ≡ true → seen 64 a b ≡ Ahead (steps a b)
+  seen-ahead = ahead-side (seen 64 a b) (sees 64 a b (omega arith))
+
+  pub seen-behind : isFar (seen 64 a b) ≡ false → isAhead (seen 64 a b) ≡ false → (d : ℕ) × (seen 64 a b ≡ Behind d)
+  seen-behind = behind-side (seen 64 a b)
 
 -- Numbers count modulo the ring's size.
 pub seen-mod : (reach c s : ℕ) → seen reach (c % size) (s % size) ≡ seen reach c s

@@ -2,12 +2,10 @@
 -- Document 01, 'Numbers in a ring of 4,096' (001, clause 6.6.2: positive is new, zero or below is old).
 -- A number above 4,095 counts modulo 4,096, so that each definition means something on every number.
 use Prim.Native.Nat.{ℕ, zero, suc, _+_, _-_, _%_}
-use mathlib.Core.Bool.{Bool, cond}
+use mathlib.Core.Bool.{Bool, true, false, cond}
 use mathlib.Core.List.{List, [], _∷_}
 use lib.Dec.{ltb}
 use lib.IntN.{ℤ, pos, negsuc, subℕ}
-use Rattle.ring.specs.declared.Side.{Side}
-use Rattle.ring.specs.declared.Side.the-variants.{Ahead, Behind, Far}
 
 -- how many numbers the ring has, and half of them
 abbrev pub size : ℕ
@@ -35,7 +33,24 @@ signed n = cond (ltb n half) (pos n) (subℕ n size)
 unfoldable pub distance : ℕ → ℕ → ℤ
 distance a b = signed (steps a b)
 
--- where a distance leads: ahead by 1 to the reach, behind by 0 to the reach, or far. (`negsuc n` is minus `suc n`.)
+-- where a step leads: ahead by 1 to the reach, behind by 0 to the reach, or farther than the reach either way
+pub data Side : Type 0 where
+  Ahead : ℕ → Side
+  Behind : ℕ → Side
+  Far : Side
+
+-- the two tests by which code tells the three apart
+abbrev pub isFar : Side → Bool
+isFar (Ahead d) = false
+isFar (Behind d) = false
+isFar Far = true
+
+abbrev pub isAhead : Side → Bool
+isAhead (Ahead d) = true
+isAhead (Behind d) = false
+isAhead Far = false
+
+-- the side to which a distance leads. (`negsuc n` is minus `suc n`.)
 unfoldable pub side : ℕ → ℤ → Side
 side reach (pos zero) = Behind 0
 side reach (pos (suc n)) = cond (ltb n reach) (Ahead (suc n)) Far

@@ -1,6 +1,6 @@
 // A place in the ring of 4,096 numbers and a signed step along it, never mixed (document 01, 'Numbers in a ring of 4,096').
 ghost use mathlib.Core.Path.{_≡_};
-ghost use Rattle.ring.specs.Ring.{forward, steps, distance, side, seen};
+ghost use Rattle.ring.specs.Ring.{forward, steps, distance, side, isFar, isAhead};
 
 // A place in the ring. Every u16 is one: a value above 4,095 counts modulo 4,096, since going on past the last number comes round to the
 // first. So no call below asks anything of its caller. Whether such a value is accepted at all is settled where it comes in (numbers 2 and 6).
@@ -8,13 +8,6 @@ pub struct Seq(pub u16);
 
 // A step along the ring: above 0 is ahead (new), 0 or below is behind (old; 001, clause 6.6.2).
 pub struct Distance(pub i32);
-
-// Where a step leads: ahead by 1 to the reach, behind by 0 to the reach, or farther than the reach either way.
-pub enum Side {
-    Ahead(u16),
-    Behind(u16),
-    Far,
-}
 
 impl Seq {
     // How many numbers the ring has.
@@ -40,42 +33,29 @@ impl Seq {
         (to.0 % Seq::SIZE + Seq::SIZE - self.0 % Seq::SIZE) % Seq::SIZE
     }
 
-    // The distance from here to `to`: -2,048 to 2,047.
+    // The distance from here to `to`: -2,048 to 2,047. Half a round on and half a round back needs no branch.
     pub fn distance(self, to: Seq) -> Distance
         ensures { λ r. ⌜ r .0 ≡ distance (self .0) (to .0) ⌝ }
     {
-        let n = self.steps(to);
-        if n < Seq::HALF {
-            Distance(n as i32)
-        } else {
-            Distance(n as i32 - Seq::SIZE as i32)
-        }
-    }
-
-    // On which side `to` lies as seen from here.
-    pub fn seen(self, to: Seq) -> Side
-        ensures { λ r. ⌜ r ≡ seen 64 (self .0) (to .0) ⌝ }
-    {
-        self.distance(to).side()
+        let n = (self.steps(to) + Seq::HALF) % Seq::SIZE;
+        Distance(n as i32 - Seq::HALF as i32)
     }
 }
 
 impl Distance {
-    // On which side this step leads, by the reach of 64.
-    pub fn side(self) -> Side
-        ensures { λ r. ⌜ r ≡ side 64 (self .0) ⌝ }
+    // Whether this step leads farther than the reach, either way.
+    pub fn is_far(self) -> bool
+        ensures { λ r. ⌜ r ≡ isFar (side 64 (self .0)) ⌝ }
     {
         let d = self.0;
-        if d < -Seq::REACH {
-            return Side::Far;
-        }
-        if Seq::REACH < d {
-            return Side::Far;
-        }
-        if d <= 0 {
-            Side::Behind((-d) as u16)
-        } else {
-            Side::Ahead(d as u16)
-        }
+        (d < -Seq::REACH) | (Seq::REACH < d)
+    }
+
+    // Whether this step leads ahead, by 1 to the reach.
+    pub fn is_ahead(self) -> bool
+        ensures { λ r. ⌜ r ≡ isAhead (side 64 (self .0)) ⌝ }
+    {
+        let d = self.0;
+        (0 < d) & (d <= Seq::REACH)
     }
 }

@@ -12,16 +12,14 @@ pub use key::first_word;
 pub use looking::View;
 pub use looking::look;
 pub use lookup::Found;
+pub use record::SLOTS;
+pub use record::WORDS;
 pub use way::DataWay;
 pub use way::Way;
 pub use way::data_way_of;
 pub use way::way_of;
 
-// The layout of the lent table: its places, and how many elements of each slice belong to one of them.
+// The layout of the lent table: its places, and how many words of the keys belong to one of them. What else belongs to a place is record's.
 pub const PLACES: usize = 64;
 
 pub const KEY_WORDS: usize = 2;
-
-pub const WORDS: usize = 35;
-
-pub const SLOTS: usize = 32;

@@ -12,12 +12,12 @@ pub enum Found {
     Nothing,
 }
 
-// Whether place i stores the key of these two words.
+// Whether place i stores the key of these two words. The source is looked at first: the channels of one box have mostly one destination.
 fn is_stored(keys: &[u64], i: usize, first: u64, second: u64) -> bool
     requires { ⌜ (length (now keys) ≡ 128) × (i < 64) ⌝ }
     ensures { λ r. ⌜ r ≡ stores (now (keys .entry)) first second i ⌝ }
 {
-    (keys[KEY_WORDS * i] == first) & (keys[KEY_WORDS * i + 1] == second)
+    (keys[KEY_WORDS * i + 1] == second) & (keys[KEY_WORDS * i] == first)
 }
 
 // Whether place i stores no key.

@@ -45,8 +45,8 @@ ahead-requires c κs =
     let p = at-entry l .pre in
     (p .0, ((p .1 .0, p .1 .2), ahead-frame (a .r .current .0) (a .s .0) _ (lies l _ (c .before .before .before .before .before .before .d .given .1)) (a .handle)))
 
-answer-requires : tie.Need-answer-requires
-answer-requires c κs = search needs
+accepted-requires : tie.Need-accepted-requires
+accepted-requires c κs = search needs
 
 enum-told : tie.Need-enum-told
 enum-told c = search needs
@@ -63,8 +63,8 @@ filled-requires c κs =
     let p = at-entry l .pre in
     ((p .0 .0, lies l Missing (c .before .before .before .before .enum-told2 .given .1)), p .1 .0)
 
-answer-requires-2 : tie.Need-answer-requires-2
-answer-requires-2 c κs = search needs
+accepted-requires-2 : tie.Need-accepted-requires-2
+accepted-requires-2 c κs = search needs
 
 enum-told-3 : tie.Need-enum-told-3
 enum-told-3 c = search needs
@@ -98,7 +98,7 @@ returns c =
     let l = c .before .before .before .before .before .before .before .before .before .before .before .before .before .before .before .before .before .before .before .before in
     let a = at-entry l .args in
     let p = at-entry l .pre in
-    frame-ahead (a .s .0) (a .handle) (a .time) (p .0 .0) (a .returned .now) (lies l _ (c .before .before .before .before .before .before .before .before .before .before .before .before .before .before .before .before .before .before .d .given .1)) (c .before .before .before .before .before .before .before .before .before .before .before .ahead .ensures) (c .answer .ensures)
+    frame-ahead (a .s .0) (a .handle) (a .time) (p .0 .0) (a .returned .now) (lies l _ (c .before .before .before .before .before .before .before .before .before .before .before .before .before .before .before .before .before .before .d .given .1)) (c .before .before .before .before .before .before .before .before .before .before .before .ahead .ensures) (c .accepted .ensures)
 
 same-length-6 : tie.Need-same-length-6
 same-length-6 c = search needs
@@ -136,7 +136,7 @@ returns-3 c =
     let a = at-entry l .args in
     let p = at-entry l .pre in
     frame-missing (a .s .0) (a .handle) (a .time) (p .0 .0) (a .returned .now) (a .nack .now) (lies l Missing (c .before .before .before .before .before .before .before .before .before .before .before .before .before .before .enum-told2 .given .1))
-    (c .before .before .before .before .before .before .before .before .before .filled .ensures) (c .answer2 .ensures)
+    (c .before .before .before .before .before .before .before .before .before .filled .ensures) (c .accepted2 .ensures)
 
 same-length-13 : tie.Need-same-length-13
 same-length-13 c = search needs
@@ -186,12 +186,12 @@ arrive-spec =
     enum-known-d
     sub-ahead
     ahead-requires
-    answer-requires
+    accepted-requires
     enum-told
     handed-up-requires
     enum-told-2
     filled-requires
-    answer-requires-2
+    accepted-requires-2
     enum-told-3
     sent-back-requires
     enum-told-4

@@ -7,7 +7,7 @@ use Rattle.channel.proofs.act.restarted.Reads as reads
 use Rattle.channel.proofs.act.restarted.Lts as lts
 use Rattle.channel.proofs.act.handed_up.Reads as handed-up-reads
 use Rattle.record.proofs.Record.span.Reads as span-reads
-use Rattle.channel.proofs.window.hand.Reads as hand-reads
+use Rattle.record.proofs.hand.Reads as hand-reads
 
 span-requires : tie.Need-span-requires
 span-requires c κs = search needs

@@ -1,20 +1,19 @@
--- `Record::spot` meets its contract: M while nothing is missing is one ahead of C; else by the side on which s lies as seen from C, and then by the window.
+-- `Record::spot` meets its contract: M while nothing is missing is one ahead of C; else by the distance of s from C, which is far, ahead or behind,
+-- and then by the window.
 use mathlib.Core.Path.{_≡_, sym, _∙_}
 use mathlib.Core.Logic.{inl, inr}
+use Prim.Native.Nat.{_<_}
 use lib.Dec.{eqb}
 use borrow.Author.Tests.{eqb-true}
+use Rattle.ring.specs.Ring.{steps}
+use Rattle.ring.proofs.Sides.{seen-far, seen-ahead, seen-behind}
+use Rattle.record.specs.Judge.{BehindAt}
 use Rattle.record.specs.Moving.{spanIn}
 use Rattle.wire.proofs.Joined.{and-left, and-right}
 use Rattle.record.proofs.Spots.{next-is-ahead}
 use borrow.Author.Needs.{needs}
 use Rattle.record.proofs.Record.spot.Statement.{statement}
 use Rattle.record.proofs.Record.spot.Tie as tie
-use Rattle.record.proofs.Record.spot.Reads as reads
-use Rattle.record.proofs.Record.spot.Lts as lts
-use Rattle.record.proofs.Record.span.Reads as span-reads
-use Rattle.record.proofs.slot.Reads as slot-reads
-use Rattle.ring.proofs.Seq.seen.Reads as seen-reads
-use Rattle.ring.proofs.Seq.steps.Reads as steps-reads
 
 span-requires : tie.Need-span-requires
 span-requires c κs = search needs
@@ -26,24 +25,45 @@ returns c =
     let none : spanIn (a .self) ≡ 0 = sym (c .before .before .before .span .ensures) ∙ eqb-true _ 0 (and-right is-oldest _ (c .if1 .taken)) in
     record { is = next-is-ahead (a .self .current .0) (a .self .oldest .0) (a .s .0) (eqb-true _ _ (and-left is-oldest _ (c .if1 .taken))) none; none = none }
 
-seen-requires : tie.Need-seen-requires
-seen-requires c κs = search needs
+distance-requires : tie.Need-distance-requires
+distance-requires c κs = search needs
 
-enum-known-d : tie.Need-enum-known-d
-enum-known-d c = search needs
+is-far-requires : tie.Need-is-far-requires
+is-far-requires c κs = search needs
 
-enum-told : tie.Need-enum-told
-enum-told c = search needs
+returns-2 : tie.Need-returns-2
+returns-2 c = seen-far _ _ (rw (c .before .is-far .ensures, c .before .before .distance .ensures) at (c .if2 .taken))
+
+is-ahead-requires : tie.Need-is-ahead-requires
+is-ahead-requires c κs = search needs
 
 steps-requires : tie.Need-steps-requires
 steps-requires c κs = search needs
 
-returns-2 : tie.Need-returns-2
-returns-2 c =
+returns-3 : tie.Need-returns-3
+returns-3 c = rw (c .steps .ensures) (seen-ahead _ _ (rw (c .before .before .is-ahead .ensures, c .before .before .before .before .before .distance .ensures) at (c .before .if3 .taken)))
+
+-- past the tests of the distance
+behind : (c : tie.Else3) → BehindAt (c .before .before .before .before .before .before .before .before .before .before .before .before .args .self .current .0) (c .before .before .before .before .before .before .before .before .before .before .before .before .args .s .0)
+behind c =
+    let far = rw (c .before .before .before .is-far .ensures, c .before .before .before .before .distance .ensures) at (c .before .before .if2 .left) in
+    let ahead = rw (c .before .is-ahead .ensures, c .before .before .before .before .distance .ensures) at (c .if3 .left) in
+    let found = seen-behind (c .before .before .before .before .before .before .before .before .before .before .before .before .args .self .current .0) (c .before .before .before .before .before .before .before .before .before .before .before .before .args .s .0) far ahead in
+    record { by = found .0; is = found .1 }
+
+steps-requires-2 : tie.Need-steps-requires-2
+steps-requires-2 c κs = search needs
+
+returns-4 : tie.Need-returns-4
+returns-4 c =
     record {
-      behind = record { by = c .before .before .enum-told .given .0 .0; is = sym (c .before .before .before .before .seen .ensures) ∙ c .before .before .enum-told .given .1 };
-      known = inl (rw (c .before .before .before .before .before .before .before .before .span .ensures, c .before .steps .ensures) at (c .if2 .taken));
+      behind = behind (c .before .before);
+      known = inl (rw (c .before .before .before .before .before .before .before .before .before .before .span .ensures, c .before .steps2 .ensures) at (c .if4 .taken));
     }
+
+-- past the test of the window
+within : (c : tie.Else4) → steps (c .before .before .before .before .before .before .before .before .before .before .before .before .before .before .args .self .oldest .0) (c .before .before .before .before .before .before .before .before .before .before .before .before .before .before .args .s .0) < spanIn (c .before .before .before .before .before .before .before .before .before .before .before .before .before .before .args .self)
+within c = rw (c .before .steps2 .ensures, c .before .before .before .before .before .before .before .before .before .before .span .ensures) at (c .if4 .left)
 
 slot-requires : tie.Need-slot-requires
 slot-requires c κs = search needs
@@ -51,33 +71,20 @@ slot-requires c κs = search needs
 octet-requires : tie.Need-octet-requires
 octet-requires c κs = search needs
 
-enum-told-2 : tie.Need-enum-told-2
-enum-told-2 c = search needs
-
-returns-3 : tie.Need-returns-3
-returns-3 c = sym (c .before .before .before .seen .ensures) ∙ c .before .d .given .1
-
-returns-4 : tie.Need-returns-4
-returns-4 c =
-    record {
-      behind = record { by = c .before .before .before .before .before .enum-told .given .0 .0; is = sym (c .before .before .before .before .before .before .before .seen .ensures) ∙ c .before .before .before .before .before .enum-told .given .1 };
-      within = rw (c .before .before .before .before .steps .ensures, c .before .before .before .before .before .before .before .before .before .before .before .span .ensures) at (c .before .before .before .if2 .left);
-      marked = rw (c .before .octet .ensures, c .before .before .slot .ensures) at (c .if3 .taken);
-    }
-
 returns-5 : tie.Need-returns-5
 returns-5 c =
     record {
-      behind = record { by = c .before .before .before .before .before .enum-told .given .0 .0; is = sym (c .before .before .before .before .before .before .before .seen .ensures) ∙ c .before .before .before .before .before .enum-told .given .1 };
-      known =
-          inr (
-            rw (c .before .before .before .before .steps .ensures, c .before .before .before .before .before .before .before .before .before .before .before .span .ensures) at (c .before .before .before .if2 .left),
-            rw (c .before .octet .ensures, c .before .before .slot .ensures) at (c .if3 .left),
-          );
+      behind = behind (c .before .before .before .before .before);
+      within = within (c .before .before .before);
+      marked = rw (c .before .octet .ensures, c .before .before .slot .ensures) at (c .if5 .taken);
     }
 
 returns-6 : tie.Need-returns-6
-returns-6 c = sym (c .before .before .seen .ensures) ∙ c .enum-told2 .given .1
+returns-6 c =
+    record {
+      behind = behind (c .before .before .before .before .before);
+      known = inr (within (c .before .before .before), rw (c .before .octet .ensures, c .before .before .slot .ensures) at (c .if5 .left));
+    }
 
 pub spot-spec : {M : Type 1} → statement M
 spot-spec =
@@ -85,15 +92,15 @@ spot-spec =
     (tie.spec
     span-requires
     returns
-    seen-requires
-    enum-known-d
-    enum-told
-    steps-requires
+    distance-requires
+    is-far-requires
     returns-2
+    is-ahead-requires
+    steps-requires
+    returns-3
+    steps-requires-2
+    returns-4
     slot-requires
     octet-requires
-    enum-told-2
-    returns-3
-    returns-4
     returns-5
     returns-6)

@@ -1,0 +1,160 @@
+-- `reminder` meets its contract: by the way that `way_of` gives it refuses, or lends the parts of the channel's place to the call on one place.
+use mathlib.Core.Path.{refl}
+use native.Mathlib.Omega.{arith}
+use borrow.Author.Needs.{needs}
+use denote.Ref.{now}
+use Rattle.larq.specs.Events.{reminder}
+use Rattle.channel.specs.Call.{parts, buffers}
+use Rattle.arrivals.proofs.Events.{Told, Goes, goes, kept-did, turned-did}
+use Rattle.arrivals.proofs.reminders.reminder.Statement.{statement}
+use Rattle.arrivals.proofs.reminders.reminder.Tie as tie
+
+way-of-requires : tie.Need-way-of-requires
+way-of-requires c κs = search needs
+
+enum-known-way : tie.Need-enum-known-way
+enum-known-way c = search needs
+
+abbrev told : tie.Start → Told
+told c =
+    let a = c .args in
+    record {
+      keys = now (a .keys);
+      words = now (a .words);
+      handles = now (a .handles);
+      marks = now (a .marks);
+      up = now (a .up);
+      returned = now (a .returned);
+      nack = now (a .nack);
+      destination = now (a .destination);
+      source = now (a .source);
+      priority = a .priority;
+      time = a .time;
+    }
+
+going : (c : tie.After-known-told) → Goes (told (c .before .before .before .before .before .before .before .before .before .before .before)) (c .before .way .given .0 .0)
+going c = goes (told (c .before .before .before .before .before .before .before .before .before .before .before)) (reminder (c .before .before .before .before .before .before .before .before .before .before .before .args .number)) (c .before .before .before .before .before .before .before .before .before .before .before .args .number) refl _ _ (c .before .before .before .way-of .ensures) (c .before .way .given .1)
+
+mul-from : tie.Need-mul-from
+mul-from c = omega (arith, going c)
+
+mul-slot : tie.Need-mul-slot
+mul-slot c = omega (arith, going c)
+
+add-reminder : tie.Need-add-reminder
+add-reminder c = omega (arith, going c)
+
+mul-reminder : tie.Need-mul-reminder
+mul-reminder c = omega (arith, going c)
+
+sub-reminder : tie.Need-sub-reminder
+sub-reminder c = search needs
+
+part-reminder-start : tie.Need-part-reminder-start
+part-reminder-start c = search needs
+
+part-reminder-end : tie.Need-part-reminder-end
+part-reminder-end c = omega (arith, going c)
+
+add-reminder-2 : tie.Need-add-reminder-2
+add-reminder-2 c = omega (arith, going (c .before))
+
+mul-reminder-2 : tie.Need-mul-reminder-2
+mul-reminder-2 c = omega (arith, going (c .before))
+
+sub-reminder-2 : tie.Need-sub-reminder-2
+sub-reminder-2 c = search needs
+
+part-reminder-start-2 : tie.Need-part-reminder-start-2
+part-reminder-start-2 c = search needs
+
+part-reminder-end-2 : tie.Need-part-reminder-end-2
+part-reminder-end-2 c = omega (arith, going (c .before))
+
+add-reminder-3 : tie.Need-add-reminder-3
+add-reminder-3 c = omega (arith, going (c .before .before))
+
+sub-reminder-3 : tie.Need-sub-reminder-3
+sub-reminder-3 c = search needs
+
+part-reminder-start-3 : tie.Need-part-reminder-start-3
+part-reminder-start-3 c = search needs
+
+part-reminder-end-3 : tie.Need-part-reminder-end-3
+part-reminder-end-3 c = omega (arith, going (c .before .before))
+
+reminder-requires : tie.Need-reminder-requires
+reminder-requires c κs = search needs
+
+enum-known-way-2 : tie.Need-enum-known-way-2
+enum-known-way-2 c = search needs
+
+refused-requires : tie.Need-refused-requires
+refused-requires c κs = search needs
+
+same-length : tie.Need-same-length
+same-length c = search needs
+
+same-length-2 : tie.Need-same-length-2
+same-length-2 c = search needs
+
+same-length-3 : tie.Need-same-length-3
+same-length-3 c = search needs
+
+same-length-4 : tie.Need-same-length-4
+same-length-4 c = search needs
+
+same-length-5 : tie.Need-same-length-5
+same-length-5 c = search needs
+
+same-length-6 : tie.Need-same-length-6
+same-length-6 c = search needs
+
+returns : tie.Need-returns
+returns c =
+    let at = c .before .before .before .before .before .before .before .before .before .before .before .before .before .before .before .before .before .before .before in
+    let start = at .before .before .before .before .before .before .before .before .before .before .before in
+    let call = c .before .before .before .before .before .before .before .before .before .before .before .before .reminder in
+    kept-did (told start) (reminder (start .args .number)) (start .args .number) refl refl _ _ (parts _ _ _) (buffers _ _ _) _
+    (at .before .before .before .way-of .ensures) (at .before .way .given .1)
+    (record { words = call .kept .0; handles = call .kept .1 .0; marks = call .kept .1 .1 .0 }) (call .ensures)
+
+returns-2 : tie.Need-returns-2
+returns-2 c =
+    let start = c .before .before .before .before .before .before .before .before .before .before .before .before in
+    turned-did (told start) (reminder (start .args .number)) (start .args .number) refl refl _ _ _ (c .before .before .before .before .way-of .ensures) (c .before .before .way2 .given .1)
+    (c .refused .ensures)
+
+pub reminder-spec : {M : Type 1} → statement M
+reminder-spec =
+    tie.close
+    (tie.spec
+    way-of-requires
+    enum-known-way
+    mul-from
+    mul-slot
+    add-reminder
+    mul-reminder
+    sub-reminder
+    part-reminder-start
+    part-reminder-end
+    add-reminder-2
+    mul-reminder-2
+    sub-reminder-2
+    part-reminder-start-2
+    part-reminder-end-2
+    add-reminder-3
+    sub-reminder-3
+    part-reminder-start-3
+    part-reminder-end-3
+    reminder-requires
+    enum-known-way-2
+    refused-requires
+    same-length
+    same-length-2
+    same-length-3
+    same-length-4
+    same-length-5
+    same-length-6
+    returns
+    returns-2)

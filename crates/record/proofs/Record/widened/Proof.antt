@@ -1,0 +1,112 @@
+-- `widened` meets its contract: a step that cannot be taken leaves all as it is; one that can finds room (Stepping), and leaves what its calls leave.
+use mathlib.Core.Path.{_≡_, refl, sym, _∙_}
+use mathlib.Core.Bool.{true}
+use native.Mathlib.Omega.{arith}
+use borrow.Author.Tests.{not-true, not-false}
+use Rattle.record.proofs.Stepping.{not-both, Fits, fits-of, asked-few, handed-all, handed-few}
+use lib.ListN.{length}
+use Rattle.ring.specs.Ring.{steps}
+use Rattle.record.specs.Judge.{lentOf}
+use Rattle.record.specs.Moving.{spanIn}
+use Rattle.record.specs.Step.{canWiden}
+use borrow.Author.Needs.{needs}
+use Rattle.record.proofs.Record.widened.Statement.{statement}
+use Rattle.record.proofs.Record.widened.Tie as tie
+use Rattle.record.proofs.Record.widened.Reads as reads
+use Rattle.record.proofs.Record.widened.Lts as lts
+use Rattle.record.proofs.Record.can_widen.Reads as can-widen-reads
+use Rattle.record.proofs.Record.grown.Reads as grown-reads
+use Rattle.record.proofs.Record.unmoved.Reads as unmoved-reads
+use Rattle.record.proofs.step.miss.Reads as miss-reads
+use Rattle.record.proofs.window.hand.Reads as hand-reads
+
+-- from where the window has grown back to the entry
+abbrev at-entry : tie.After-grown → tie.Start
+at-entry c = c .before .before .before .before .before .before .before .before
+
+can : (c : tie.After-grown)
+    → canWiden
+    (lentOf (length (at-entry c .args .words .now)) (length (at-entry c .args .handles .now)) (length (at-entry c .args .marks .now)) (length (at-entry c .args .up .now)) (length (at-entry c .args .up .now)) (length (at-entry c .args .nack .now)))
+    (spanIn (at-entry c .args .self)) (at-entry c .args .made) (steps (at-entry c .args .self .current .0) (at-entry c .args .s .0)) ≡ true
+can c = sym (c .before .before .can-widen .ensures) ∙ not-false _ (c .before .if1 .left)
+
+fits : (c : tie.After-grown)
+    → Fits (at-entry c .args .words .now) (at-entry c .args .handles .now) (at-entry c .args .marks .now) (at-entry c .args .up .now) (at-entry c .args .nack .now)
+    (spanIn (at-entry c .args .self)) (at-entry c .args .made) (steps (at-entry c .args .self .current .0) (at-entry c .args .s .0))
+fits c = fits-of (can c)
+
+can-widen-requires : tie.Need-can-widen-requires
+can-widen-requires c κs = search needs
+
+unmoved-requires : tie.Need-unmoved-requires
+unmoved-requires c κs = search needs
+
+returns : tie.Need-returns
+returns c =
+    record {
+      taken = λ e. not-both _ e (sym (c .before .before .can-widen .ensures) ∙ not-true _ (c .before .if1 .taken));
+      left = λ _. record { words = refl; marks = refl; up = refl; nack = refl; passed = rw (c .unmoved .ensures) };
+    }
+
+grown-requires : tie.Need-grown-requires
+grown-requires c κs = search needs
+
+hand-requires : tie.Need-hand-requires
+hand-requires c κs = search needs
+
+miss-requires : tie.Need-miss-requires
+miss-requires c κs =
+    let g = c .before .before .before .before .before .before .before .before in
+    let e = fits g .enough in
+    ((e .words-sized, e .marks-sized), omega (arith, e .nack-room, asked-few (fits g) (g .grown .ensures)))
+
+sub-t15 : tie.Need-sub-t15
+sub-t15 c =
+    let h = c .before .before .before .before .before .before .before .before .before .before .before .before .before in
+    let g = h .before .before .before in
+    handed-few (fits g) (g .grown .ensures) (h .hand .ensures)
+
+same-length : tie.Need-same-length
+same-length c = search needs
+
+same-length-2 : tie.Need-same-length-2
+same-length-2 c = search needs
+
+same-length-3 : tie.Need-same-length-3
+same-length-3 c = search needs
+
+same-length-4 : tie.Need-same-length-4
+same-length-4 c = search needs
+
+returns-2 : tie.Need-returns-2
+returns-2 c =
+    let m = c .before .before .before .before .before .before .before in
+    let h = c .before .before .before .before .before .before .before .before .before .before .before .before .before in
+    let g = h .before .before .before in
+    record {
+      taken = λ _. record {
+        grown = g .grown .ensures;
+        handed = handed-all (fits g) (g .grown .ensures) (h .hand .ensures);
+        missed = m .miss .ensures .1;
+        asked = m .miss .ensures .0;
+        lost = refl;
+      };
+      left = λ e. not-both _ (can g) e;
+    }
+
+pub widened-spec : {M : Type 1} → statement M
+widened-spec =
+    tie.close
+    (tie.spec
+    can-widen-requires
+    unmoved-requires
+    returns
+    grown-requires
+    hand-requires
+    miss-requires
+    sub-t15
+    same-length
+    same-length-2
+    same-length-3
+    same-length-4
+    returns-2)

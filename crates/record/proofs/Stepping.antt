@@ -1,0 +1,76 @@
+-- A step ahead that can be taken: what its test says, and that there is room for what it passes and asks for. Assumes nothing.
+use Prim.Native.Nat.{ℕ, _≤_}
+use mathlib.Core.Path.{_≡_, ap, sym, _∙_}
+use mathlib.Core.Bool.{Bool, true, false, cond, _&&_}
+use mathlib.Core.List.{List}
+use native.Mathlib.Omega.{arith}
+use lib.Dec.{leb}
+use lib.ListN.{length}
+use borrow.Author.Tests.{le-leb, leb-true, eq-eqb}
+use Rattle.wire.proofs.Joined.{and-left, and-right}
+use Rattle.ring.specs.Ring.{steps}
+use Rattle.larq.specs.Channel as channel
+use Rattle.larq.specs.Table.{lentEnough}
+use Rattle.record.specs.Buffers.{Laid}
+use Rattle.record.specs.Judge.{lentOf}
+use Rattle.record.specs.Moving.{spanIn, IsGrown}
+use Rattle.record.specs.Step.{canWiden}
+use Rattle.record.specs.Walk.{waitingOf, handNumbers}
+use Rattle.record.specs.declared.Record.{Record}
+use Rattle.record.specs.declared.Grown.{Grown}
+use Rattle.record.proofs.Refusing.{Enough, enough-of}
+use Rattle.record.proofs.Waiting.{waiting-short, hands-all}
+
+-- a test has one answer
+pub not-both : {A : Type 0} (b : Bool) → b ≡ true → b ≡ false → A
+not-both b e f = no-one (ap count (sym e ∙ f))
+  where
+    count : Bool → ℕ
+    count b = cond b 1 0
+
+    no-one : {A : Type 0} → count true ≡ count false → A
+    no-one e = absurd (let z : ⊥ = omega arith in z)
+
+-- what the test says, of a step that makes so many of d numbers missing
+pub record Fits (w h k u q : List ℕ) (span made d : ℕ) : Type 0 where
+  pub enough : Enough (length w) (length h) (length k) (length u) (length u) (length q)
+  pub narrow : span ≤ 32
+  pub few : made ≤ d
+
+module _ {w h k u q : List ℕ} {span made d : ℕ} where
+  pub fits-of : canWiden (lentOf (length w) (length h) (length k) (length u) (length u) (length q)) span made d ≡ true → Fits w h k u q span made d
+  fits-of e =
+      let lent = lentEnough channel.window (lentOf (length w) (length h) (length k) (length u) (length u) (length q)) in
+      let rest = and-right lent _ e in
+      record {
+        enough = enough-of (length w) (length h) (length k) (length u) (length u) (length q) (and-left lent _ e);
+        narrow = leb-true span 32 (and-left (leb span 32) _ rest);
+        few = leb-true made d (and-right (leb span 32) _ rest);
+      }
+
+  pub can-widen : Fits w h k u q span made d → canWiden (lentOf (length w) (length h) (length k) (length u) (length u) (length q)) span made d ≡ true
+  can-widen f =
+      rw (
+        le-leb 32 (length u) (f .enough .up-room),
+        le-leb 32 (length q) (f .enough .nack-room),
+        eq-eqb (length w) 35 (f .enough .words-sized),
+        eq-eqb (length h) 32 (f .enough .handles-sized),
+        eq-eqb (length k) 32 (f .enough .marks-sized),
+        le-leb span 32 (f .narrow),
+        le-leb made d (f .few),
+      )
+
+-- M goes by no more numbers at once than it has to pass, and no more are asked for than the window has.
+module _ {r : Record} {w h k u q : List ℕ} {s made t : ℕ} {to : Grown} (fits : Fits w h k u q (spanIn r) made (steps (r .current .0) s))
+    (is : IsGrown r s made t to) where
+  pub asked-few : to .count ≤ 32
+  asked-few = omega (arith, is .count, is .over, fits .narrow, fits .few)
+
+  module _ {u′ : List ℕ} {end : ℕ} (hands : Laid (waitingOf h k (r .oldest .0) (handNumbers h k (to .old) u)) 0 u u′ end) where
+    pub handed-all : Laid (waitingOf h k (r .oldest .0) (to .old)) 0 u u′ end
+    handed-all =
+        hands-all h k (r .oldest .0) (to .old) (fits .enough .handles-sized) (fits .enough .marks-sized)
+        (omega (arith, is .old, fits .narrow, fits .enough .up-room)) hands
+
+    pub handed-few : end ≤ to .over
+    handed-few = omega (arith, handed-all .end-is, is .old, waiting-short h k (r .oldest .0) (to .old))

@@ -1,0 +1,3 @@
+pub mod Reminders
+pub mod Ticking
+pub mod Closing
