@@ -2,12 +2,13 @@
 
 use crate::implementations::Implementation;
 use crate::scenarios::Scenarios;
+use compare::sessions::request_of;
 use peer::make::Maker;
 use peer::random::Random;
 use peer::receiver::ChannelEvent;
-use peer::session::{Event, Writing};
+use peer::session::Event;
 use pikurandal::lent::{Buffers, Slices};
-use pikurandal::raw::{Frame, Request, Station};
+use pikurandal::raw::{Frame, Station};
 
 /// How many random calls, and how many events of a random session, each implementation is tried on.
 const TRIED: u64 = 20_000;
@@ -70,7 +71,7 @@ fn answered(implementation: &Implementation, event: &Event, station: Station, li
         Event::Read(frame) => Some((format!("{:?}", implementation.rate_read(frame)), Vec::new())),
         Event::Write(writing) => {
             let mut out = vec![litter; writing.room.min(LARGEST_ROOM).into()];
-            let written = implementation.rate_write(&mut out, request_of(writing), &writing.addresses);
+            let written = implementation.rate_write(&mut out, request_of(&writing.request), &writing.addresses);
             Some((format!("{written:?}"), out))
         }
         Event::Received(frame) => {
@@ -94,19 +95,5 @@ fn any_station(random: &mut Random) -> Station {
         oldest_tx: random.word() as u32,
         new_rx: random.word() as u32,
         previous_rx: random.word() as u32,
-    }
-}
-
-fn request_of(writing: &Writing) -> Request {
-    let request = &writing.request;
-    Request {
-        destination: request.destination,
-        source: request.source,
-        opcode: request.opcode,
-        bands: request.num_bands,
-        pe1: request.band_1.pe,
-        rank1: request.band_1.rank,
-        pe2: request.band_2.pe,
-        rank2: request.band_2.rank,
     }
 }

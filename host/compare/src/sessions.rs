@@ -160,7 +160,8 @@ fn sets_of(frame: &capability::Frame) -> Frame {
     }
 }
 
-fn request_of(request: &peer::rate::Request) -> raw::Request {
+/// A request of `peer`'s as the archive takes it.
+pub fn request_of(request: &peer::rate::Request) -> raw::Request {
     raw::Request {
         destination: request.destination,
         source: request.source,
