@@ -48,7 +48,7 @@ in-current-rx i r = in-with i (r .new) (r .previous)
 pub in-added : (i : ℕ) (s : Station) (f : ℕ) → (i isIn used s f .station .tx .new) ↔ ((i isIn s .tx .new) ⊎ (i isIn f))
 in-added i s f = in-with i (s .tx .new) f
 
--- a frame is sent exactly if some flag of f is in neither NewTx nor PreviousTx
+-- a use sends a frame where f has a flag that neither set of CurrentTx has, and only there
 pub announced-exactly : (s : Station) (f : ℕ) → Word (s .tx .new) → Word (s .tx .previous) → Word f
     → (used s f .sends ≡ true) ↔ SomeUnannounced (s .tx) f
 announced-exactly s f hn hp hf = Iff·trans (unequal missing 0) (Iff·trans (some-flag missing (word-without f _ hf)) (names, unnames))

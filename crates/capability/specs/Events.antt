@@ -10,7 +10,7 @@ use Rattle.capability.specs.declared.Frame.{Frame}
 use Rattle.capability.specs.Sets.{_with_, _without_, some, currentTx, currentRx}
 use Rattle.capability.specs.Answers.{Outcome, startIf, cancelThenStartIf, accepted, refused}
 
--- fresh: NewTx is the default, the rest are empty
+-- a fresh station has its default set in NewTx, and nothing in the other four
 abbrev pub fresh : ℕ → Station
 fresh d = record {
   default = d;
@@ -28,14 +28,14 @@ unannounced t f = f without currentTx t
 abbrev pub announced : Tx → ℕ → Bool
 announced t f = some (unannounced t f)
 
--- f is added to NewTx, whether announced or not
+-- NewTx takes f in, also where no frame announces it
 abbrev pub addedTx : Tx → ℕ → Tx
 addedTx t f = record { new = t .new with f; previous = t .previous; oldest = t .oldest }
 
 abbrev pub afterUse : Station → ℕ → Station
 afterUse s f = record { default = s .default; tx = addedTx (s .tx) f; rx = s .rx }
 
--- an announcement carries the sets after that and starts the timer
+-- what is announced are the sets with f in them, and the timer is started with it
 abbrev pub used : Station → ℕ → Outcome
 used s f = accepted (afterUse s f) (announced (s .tx) f) 0 (startIf (announced (s .tx) f))
 

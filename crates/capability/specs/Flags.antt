@@ -31,7 +31,7 @@ pub record SomeDifference (a b : ℕ) : Type 0 where
   pub below : at < 32
   pub differs : flag at a ≢ flag at b
 
--- some flag of f is in neither NewTx nor PreviousTx
+-- f has a flag that neither of the two sets of CurrentTx has
 pub record SomeUnannounced (t : Tx) (f : ℕ) : Type 0 where
   pub at : ℕ
   pub below : at < 32

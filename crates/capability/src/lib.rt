@@ -1,5 +1,5 @@
 // The capability sets of one station: what it announces, what it hears from others, when it sends a frame and what its retransmit timer does.
-// Document 01, 'Capability sets'; 001, clauses 6.5.3 to 6.5.5. A set is a word of 32 flags, and every word is a set, so no station is refused.
+// Document 01, 'Capability sets'; 001, 6.5.3 to 6.5.5. Each of the 32 bits is a flag, and every word is a set, so no station is refused.
 ghost use mathlib.Core.Path.{_≡_};
 ghost use Rattle.capability.specs.Sets.{currentTx, currentRx, carried};
 ghost use Rattle.capability.specs.Answers.{orderOf, orderNumber, startIf, cancelThenStartIf, outcomeOf, answered};

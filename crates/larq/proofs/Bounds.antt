@@ -1,5 +1,5 @@
 -- Bounds: at most as many handles go up, and numbers are asked for, as the window has numbers, and one handle less comes back.
--- Document 01, 'Numbers the box may answer with': at most 32 handles go up and at most 31 come back. So a buffer of 32 entries is enough.
+-- Document 01, 'Numbers the box may answer with', has the bounds 32 and 31 for the two kinds of handles. So a buffer of 32 entries is enough.
 use Prim.Native.Nat.{ℕ, zero, suc, _+_, _-_, _*_, _≤_, _<_}
 use mathlib.Core.Path.{_≡_, refl, ap, sym, subst, _∙_}
 use mathlib.Core.Bool.{Bool, true, false}

@@ -1,4 +1,4 @@
--- Kept: from the empty table, the handle of each accepted data call is, at any moment, exactly one of handed up, returned, or waiting.
+-- Kept: after any run from the empty table, a handle that was accepted has gone up, or has come back, or still waits, and no two of these.
 -- Document 01, 'The four channel events', last paragraph. Calls are told apart by their index, so equal handles are too.
 use Prim.Native.Nat.{ℕ, zero, suc, _+_, _<_}
 use mathlib.Core.Path.{_≡_, refl, ap, sym, subst, _∙_}

@@ -1,5 +1,5 @@
 -- Nack: what is asked for again is a run of rising numbers that this call made missing: none that the same call gave up, and each still missing.
--- Demand 2; document 01, 'Data', and the slip 'NACK for a number that the same call gave up'.
+-- Demand 2; document 01, 'Data', and the fourth slip of an earlier box.
 use Prim.Native.Nat.{ℕ, zero, suc, _+_, _-_, _≤_, _<_}
 use mathlib.Core.Path.{_≡_, refl, ap, sym, subst, _∙_}
 use mathlib.Core.Bool.{Bool, true, false, cond}

@@ -3,7 +3,7 @@ use Prim.Native.Nat.{ℕ}
 use mathlib.Core.List.{List, []}
 use Rattle.larq.specs.Channel.{Channel}
 
--- the number, handles handed up, handles returned, numbers to be asked for again, and how many were given up in this call
+-- the number; the handles that go up and those that come back; what is asked for again; and how many numbers the call gave up
 pub record Answer (H : Type 0) : Type 0 where
   pub number : ℕ
   pub up : List H

@@ -71,7 +71,7 @@ abbrev pub filled : {H : Type 0} → ℕ → Channel H → ℕ → H → Option 
 filled w c t h none = accepted [] (h ∷ []) [] 0 (holds (taken c t))
 filled w c t h (some cs) = settledAt c t (c .current) 0 (walk (wide w) (c .oldest) cs)
 
--- restart: waiting handles are returned in sequence order, and the channel is as one that s has just opened
+-- restart: what waits comes back in sequence order, and the channel is as one that s has just opened
 abbrev pub restarted : {H : Type 0} → Channel H → ℕ → ℕ → H → Outcome H
 restarted c t s h = accepted (h ∷ []) (waiting (c .cells)) [] 0 (holds (opened s t))
 

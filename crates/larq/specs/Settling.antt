@@ -23,7 +23,7 @@ handing h w = record { oldest = w .oldest; cells = w .cells; up = h ∷ w .up; l
 abbrev pub losing : {H : Type 0} → Walked H → Walked H
 losing w = record { oldest = w .oldest; cells = w .cells; up = w .up; lost = suc (w .lost) }
 
--- a waiting M is handed up; a missing M is counted lost where the test gives it up, by its time and the span; M moves on by one, and stops at span 0
+-- M goes up where it waits; where it is missing, a test of its time and the span says whether it is lost or the walk ends; then the same for the next number, while there is one
 abbrev pub walk : {H : Type 0} → (ℕ → ℕ → Bool) → ℕ → List (Cell H) → Walked H
 walk givesUp m [] = stays m []
 walk givesUp m (waits h ∷ cs) = handing h (walk givesUp (next m) cs)

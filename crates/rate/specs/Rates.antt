@@ -23,7 +23,7 @@ abbrev pub bandOf : Chosen → Option ℕ
 bandOf (chosen.Band n) = some n
 bandOf chosen.None = none
 
--- the chosen band's number: the lowest rank among bands 1 and 2 whose PE is not 0. Of equal ranks, which no accepted request has, band 1
+-- the chosen band's number: of the two bands, less one whose PE is 0, that with the lowest rank. Of equal ranks, which no accepted request has, band 1
 unfoldable pub chosenOf : Request → Option ℕ
 chosenOf q =
     cond (eqb (q .pe1) 0) (cond (eqb (q .pe2) 0) none (some 2))

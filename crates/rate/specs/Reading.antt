@@ -25,7 +25,7 @@ bandsOf s = octetAt s 18
 abbrev pub countOf : List ℕ → ℕ
 countOf s = octetAt s 19
 
--- an octet of band 2: an absent band 2 is given as PE 0, rank 0
+-- an octet of band 2, or 0 where the frame has one band alone
 unfoldable pub ofBandTwo : List ℕ → ℕ → ℕ
 ofBandTwo s at = cond (leb 2 (bandsOf s)) (octetAt s at) 0
 

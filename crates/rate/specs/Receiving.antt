@@ -1,5 +1,5 @@
--- What receiving a frame gives: the reading, and the caller's own octets that hold the addresses.
--- Document 01, 'The rate request on the wire': the reader gives the fixed fields and the caller's own octets.
+-- What receiving a frame gives: the reading, and of the caller's frame the octets where the addresses stand.
+-- Document 01, 'The rate request on the wire', on what the reader gives.
 use Prim.Native.Nat.{ℕ}
 use mathlib.Core.Path.{_≡_}
 use mathlib.Core.List.{List}

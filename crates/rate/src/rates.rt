@@ -39,7 +39,7 @@ fn entry(pe: usize) -> u8
     RATES[pe]
 }
 
-// The number of the band of lowest rank among bands 1 and 2 whose PE is not 0.
+// The number of the chosen band: a PE of 0 is never chosen, and of two others the lower rank is.
 pub fn chosen_band(request: Request) -> Chosen
     ensures { λ r. ⌜ bandOf r ≡ chosenOf request ⌝ }
 {

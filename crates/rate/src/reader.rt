@@ -22,7 +22,7 @@ pub fn read(frame: &[u8]) -> Reading
     request(frame)
 }
 
-// What is received: the reading, and the caller's own octets that hold the addresses. Refused, there are none.
+// What is received: the reading, and of the caller's frame the octets where the addresses stand. Refused, there are none.
 pub struct Received<'a> {
     pub reading: Reading,
     pub addresses: &'a [u8],
@@ -133,7 +133,7 @@ fn given(
     }
 }
 
-// A refusal gives its number, all fields 0 and no octets.
+// Refused: the number, zeros in every field, and an extent of 0.
 fn refused(number: u8) -> Reading
     ensures { λ r. ⌜ r ≡ refusedBy number ⌝ }
 {

@@ -1,5 +1,5 @@
 -- The distance and the side at the edges, worked out: at 0, at 64 and 65 either way, at half the ring and at both its ends.
--- Document 01, 'Where to use each form' (exact meaning at 0, at plus and minus 64 and at both ends) and 'Runs at the edges' (C = 10).
+-- Document 01, 'Where to use each form', the line on the signed distance, and 'Runs at the edges' (C = 10).
 use Prim.Native.Nat.{ℕ}
 use mathlib.Core.Path.{_≡_, refl}
 use mathlib.Core.List.{List, [], _∷_, map}

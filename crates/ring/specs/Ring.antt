@@ -1,5 +1,5 @@
 -- The ring of 4,096 sequence numbers: steps forward, the signed distance, and the side on which a number lies.
--- Document 01, 'Numbers in a ring of 4,096' (001, clause 6.6.2: positive is new, zero or below is old).
+-- Document 01, 'Numbers in a ring of 4,096' (001, 6.6.2: a frame is new where the distance to it is above 0).
 -- A number above 4,095 counts modulo 4,096, so that each definition means something on every number.
 use Prim.Native.Nat.{ℕ, zero, suc, _+_, _-_, _%_}
 use mathlib.Core.Bool.{Bool, true, false, cond}
@@ -29,7 +29,7 @@ steps a b = (b + (size - a % size)) % size
 abbrev pub signed : ℕ → ℤ
 signed n = cond (ltb n half) (pos n) (subℕ n size)
 
--- the distance from a to b: b minus a modulo 4,096, taken in -2,048 to 2,047
+-- the distance from a to b: of all numbers that lead from a to b round the ring, the one from -2,048 to 2,047
 unfoldable pub distance : ℕ → ℕ → ℤ
 distance a b = signed (steps a b)
 

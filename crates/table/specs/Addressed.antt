@@ -1,5 +1,5 @@
--- The place that a call addresses. Document 01, 'The channel table': the channel of a key is the first open place with that key; a new channel
--- takes the first free place.
+-- The place that a call addresses, counted from the start of the table: where the key first stands, or for a new channel where a place is first
+-- free. Document 01, 'The channel table'.
 use Prim.Native.Nat.{ℕ}
 use mathlib.Core.Bool.{Bool, true, false}
 use Rattle.larq.specs.Table.{Key, sameKey, Place, free, held}

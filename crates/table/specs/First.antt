@@ -1,5 +1,5 @@
--- The first of the 64 places that passes a test. Document 01, 'The channel table': the channel of a key is the first open place with that
--- key, and a new channel takes the first free place.
+-- The first of the 64 places that passes a test: a key is looked for by one, and a place for a new channel by another. Document 01, 'The
+-- channel table'.
 use Prim.Native.Nat.{ℕ, zero, suc, _+_, _*_}
 use mathlib.Core.Bool.{Bool, cond, _&&_}
 use mathlib.Core.List.{List}

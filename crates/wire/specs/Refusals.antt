@@ -1,5 +1,5 @@
 -- Refusals in their order: a list of tests, each with the number that is given where it fails.
--- Document 01, 'Numbers the box may answer with': the first that applies is given, and none otherwise.
+-- Document 01, 'Numbers the box may answer with', on the order of its table.
 use Prim.Native.Nat.{ℕ}
 use mathlib.Core.Bool.{Bool, cond}
 use mathlib.Core.List.{List, [], _∷_}
