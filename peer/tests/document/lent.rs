@@ -226,7 +226,7 @@ fn random_calls_meet_every_number() {
         let (buffers, event) = tables::call(&mut random, &lent.slices());
         let (answer, table) = take(&lent.slices(), buffers, &event);
         counts[usize::from(answer.number)] += 1;
-        let still_there = table.is_some_and(|table| table.channel_of(&event.key).is_some());
+        let still_there = table.map_or(false, |table| table.channel_of(&event.key).is_some());
         if event.act == Act::Close && answer.number == 0 && still_there {
             doubled_closes += 1;
         }
@@ -249,6 +249,13 @@ fn ways(record: &Record) -> [bool; 6] {
     ]
 }
 
+fn opened(place: &Place) -> Option<(&Owner, &Record)> {
+    match place {
+        Place::Open(owner, record) => Some((owner, record)),
+        Place::Free => None,
+    }
+}
+
 /// Random lent tables hold records broken in each way alone, sound ones at the edges, and places of nobody.
 #[test]
 fn random_tables_are_broken_in_each_way() {
@@ -258,10 +265,7 @@ fn random_tables_are_broken_in_each_way() {
     for _ in 0..200 {
         let lent = tables::table(&mut random, FreePlaces::Zeros);
         let table = Table::from_slices(&lent.slices()).expect("64 places");
-        for place in table.places() {
-            let Place::Open(owner, record) = place else {
-                continue;
-            };
+        for (owner, record) in table.places().iter().filter_map(opened) {
             let ways = ways(record);
             assert_eq!(record.is_broken(), ways.contains(&true), "{record:?}");
             if ways.iter().filter(|&&way| way).count() == 1 {

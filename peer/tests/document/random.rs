@@ -1,7 +1,7 @@
 //! Random sessions reach every number and every depth, and keep document 01's promises about handles.
 
 use peer::make::Maker;
-use peer::receiver::{Act, Buffers};
+use peer::receiver::{Act, Buffers, ChannelEvent};
 use peer::record::Record;
 use peer::session::{Event, Session};
 use peer::table::{Place, Table};
@@ -15,11 +15,10 @@ fn counts() -> BTreeMap<(String, u8), u64> {
     let mut counts = BTreeMap::new();
     for event in Maker::from_seed(SEED).take(5_000) {
         let line = session.answer(&event);
-        let mut words = line.split(' ').map(str::to_string);
-        let (Some(word), Some(number)) = (words.next(), words.next()) else {
-            panic!("a line has a word and a number: {line}");
-        };
-        *counts.entry((word, number.parse().expect("a number"))).or_insert(0) += 1;
+        let mut words = line.split(' ');
+        let word = words.next().expect("a word").to_string();
+        let number = words.next().expect("a number").parse().expect("a number");
+        *counts.entry((word, number)).or_insert(0) += 1;
     }
     counts
 }
@@ -62,10 +61,7 @@ struct Reached {
 fn random_sessions_reach_deep_and_stay_within_bounds() {
     let mut table = Table::empty();
     let mut reached = Reached::default();
-    for event in Maker::from_seed(SEED).take(100_000) {
-        let Event::Channel(event) = event else {
-            continue;
-        };
+    for event in Maker::from_seed(SEED).take(100_000).filter_map(on_a_channel) {
         let answer = table.take(Buffers::ENOUGH, &event);
         reached.most_up = reached.most_up.max(answer.up.len());
         reached.most_returned = reached.most_returned.max(answer.returned.len());
@@ -73,7 +69,7 @@ fn random_sessions_reach_deep_and_stay_within_bounds() {
         reached.most_lost = reached.most_lost.max(answer.lost);
         reached.most_channels = reached.most_channels.max(records(&table).count());
         reached.widest = reached.widest.max(table.record_of(&event.key).map_or(0, Record::span));
-        assert!(!table.record_of(&event.key).is_some_and(Record::is_broken));
+        assert!(!table.record_of(&event.key).map_or(false, Record::is_broken));
     }
     let all = Reached {
         most_up: 32,
@@ -84,6 +80,13 @@ fn random_sessions_reach_deep_and_stay_within_bounds() {
         widest: 32,
     };
     assert_eq!(reached, all);
+}
+
+fn on_a_channel(event: Event) -> Option<ChannelEvent> {
+    match event {
+        Event::Channel(event) => Some(event),
+        _ => None,
+    }
 }
 
 fn records(table: &Table) -> impl Iterator<Item = &Record> {
@@ -100,10 +103,7 @@ fn no_handle_is_lost_or_doubled() {
         let mut table = Table::empty();
         let mut gone = BTreeSet::new();
         let mut accepted = 0;
-        for (call, event) in (0..).zip(Maker::from_seed(seed).take(10_000)) {
-            let Event::Channel(mut event) = event else {
-                continue;
-            };
+        for (call, mut event) in (0..).zip(Maker::from_seed(seed).take(10_000).filter_map(on_a_channel)) {
             if let Act::Data(number, _) = event.act {
                 event.act = Act::Data(number, call);
             }

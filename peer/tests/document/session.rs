@@ -48,9 +48,9 @@ fn a_stream_may_end_anywhere() {
     for length in 0..=stream.len() {
         let expected = match length {
             0 => String::new(),
-            1..16 => "0 cut\n".to_string(),
+            1..=15 => "0 cut\n".to_string(),
             16 => look.to_string(),
-            17..23 => format!("{look}1 cut\n"),
+            17..=22 => format!("{look}1 cut\n"),
             _ => format!("{look}{fresh}"),
         };
         assert_eq!(answers(&stream[..length]), expected, "{length} octets");
