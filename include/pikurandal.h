@@ -8,9 +8,9 @@
  *
  * - A pointer with a length leads to that many elements, aligned as their type is, and is not NULL even where the length is 0. A pointer to an
  *   address leads to six octets.
- * - What a call writes overlaps nothing else that the same call was given: the four slices of a table, the three answer buffers and the addresses
- *   of one call are all apart; so are a writer's output and addresses. Two things that are only read may overlap.
- * - Nobody else writes to what was lent, nor reads what the call writes, before the call returns.
+ * - What a call may write (a pointer without const) overlaps nothing else that the same call was given. Two things that are only read (const) may
+ *   overlap, as destination and source may be the same six octets.
+ * - Until the call returns, nobody else writes to what it was lent, nor reads what it may write.
  *
  * No function keeps a pointer, allocates, locks, or calls back. Two threads may call at once on slices of their own.
  */
@@ -38,7 +38,7 @@ enum pik_number {
     PIK_NO_PLACE = 5,    /* data: the channel would be new, and no place is free */
     PIK_BROKEN = 6,      /* the channel's record is broken: the slices were written by someone else */
     PIK_EARLY = 7,       /* the time is earlier than the channel's latest */
-    PIK_FAR = 8,         /* reminder: the number is more than 64 from the current one */
+    PIK_FAR = 8,         /* reminder: the number is more than 64 from the current one, ahead or behind */
 
     /* Rate requests. The reader checks 10 to 22 in this order, the writer 15, 16, 23, 18, 19, 20, 21, 24. */
     PIK_FRAME_LENGTH = 10,   /* the frame has fewer than 60 or more than 1,514 octets */
@@ -51,11 +51,11 @@ enum pik_number {
     PIK_COUNTS = 17,         /* SSLength is not 6 + 2 x NumBands + 6 x NumAddr */
     PIK_BAND_1 = 18,         /* band 1's PE is not 1 to 7 */
     PIK_BAND_2 = 19,         /* band 2 is there, and its PE is neither 0 nor 9 to 15 */
-    PIK_RANKS = 20,          /* the rank of band 1, or of a band 2 that is there, is 0; or the two are equal */
+    PIK_RANKS = 20,          /* a rank is 0, where band 2's counts only if there is a band 2; or both bands have the same */
     PIK_NO_GROUP = 21,       /* an extra address is no group address: the low bit of its first octet is 0 */
     PIK_NEXT_ETHERTYPE = 22, /* Next Ethertype is not 0 */
-    PIK_LAYOUT = 23,         /* writer: address octets not a multiple of 6; more than two bands; one band, and a band 2 that is not PE 0,
-                                rank 0; or an SSLength above 255 */
+    PIK_LAYOUT = 23,         /* writer: no frame holds this. An address is not whole; there is a third band; beside one band, PE and rank of
+                                band 2 are not both 0; or SSLength would not be an octet */
     PIK_OUTPUT = 24,         /* writer: the output is too short */
 
     /* Capability sets. */
@@ -108,38 +108,60 @@ struct pik_answer {
 
 /* What the four events share
  *
+ * - The box counts by two numbers of a channel: the current number, the newest that it knows to be sent, and the oldest missing number, which is the one
+ *   that it expects next. Numbers 0 to 4,095 go round: 0 follows 4,095, and of two numbers it is the shorter way that says which one is ahead.
+ * - Frames go up in sequence. One that comes early waits, in a window of 32 numbers up to the current one. Where the current number moves on by so much
+ *   that older numbers leave the window, those that waited go up and those that were missing are lost.
  * - A channel is a destination, a source (six octets each, in the order in which they stand in a frame) and a priority 0 to 7. The first frame opens
  *   it; a close, or pik_empty, frees its place.
- * - A time is the host's count of ticks, in a unit of the host's. On one channel it may stand still but not go back: number 7.
+ * - A time is the host's count of ticks, in a unit of the host's. On one channel it may stand still but not go back: number 7. Every accepted event sets
+ *   the channel's latest time, also where it changes nothing else.
  * - A handle is any number by which the host knows a frame's body. What went up is the upper layer's, in this order; what was returned is the host's to
  *   drop. A handle that was neither is kept by the channel until a later call names it.
  * - Numbers to be asked for again are told once, in the call that finds them missing. Sending the request, and again later, is the host's part.
- * - One call serves one channel. A host with several open channels ticks each of them. */
+ * - One call serves one channel. A host with several open channels ticks each of them.
+ * - A table that only these functions wrote has no key twice. If one of the host's own making has, the first of its places is the channel, and a close
+ *   frees that one alone. */
 
 /* Empties a table, whatever it held: all zeros. What waited in it is not returned. Number 1, or 0. */
 uint8_t pik_empty(uint64_t *keys, size_t keys_length, uint64_t *words, size_t words_length, uint32_t *handles, size_t handles_length,
                   uint8_t *marks, size_t marks_length);
 
-/* A data frame with this sequence number came in on a channel; `handle` stands for its body, which stays with the host. A frame of a channel that is not
- * open opens it. A number more than 64 from the current one restarts it: what waited is returned, and the frame goes up. Numbers 1, 2, 3, 5, 6, 7. */
+/* A data frame with this sequence number came in on a channel; `handle` stands for its body, which stays with the host. What is done with it depends on
+ * where it lies:
+ *
+ * - No such channel is open: the frame opens one at the first free place, and goes up.
+ * - 1 to 64 ahead of the current number: it is the current one now. The numbers that it skipped are missing from this time on and are asked for, but for
+ *   those that left the window at once. The frame waits behind them; where none is missing it goes up in this call.
+ * - The current number, or up to 64 behind it: if the number is missing, the frame fills the gap, and goes up with all that waited just behind it, as soon
+ *   as no older number is missing. If not, the handle is returned: the number waits already, or the channel is past it.
+ * - Farther away, either way: the sender has begun anew, and so does the channel. What waited is returned, the frame goes up, and nothing counts as lost.
+ *
+ * Numbers 1, 2, 3, 5, 6, 7. */
 struct pik_answer pik_data(uint64_t *keys, size_t keys_length, uint64_t *words, size_t words_length, uint32_t *handles, size_t handles_length,
                            uint8_t *marks, size_t marks_length, uint32_t *up, size_t up_length, uint32_t *returned, size_t returned_length,
                            uint16_t *nack, size_t nack_length, const uint8_t destination[6], const uint8_t source[6], uint8_t priority,
                            uint64_t time, uint16_t number, uint32_t handle);
 
-/* A reminder came in: the sender's current number. Numbers 1, 2, 3, 4, 6, 7, 8. */
+/* A reminder came in: the sender says up to which number it has sent. If that is 1 to 64 ahead, it is the current number now; it and all that lie between
+ * are missing from this time on and are asked for, but for those that left the window at once. If it is the current one or up to 64 behind, the box knew
+ * of it already, and only the latest time changes. A reminder brings no frame, so it neither opens a channel (number 4) nor restarts one (number 8).
+ * Numbers 1, 2, 3, 4, 6, 7, 8. */
 struct pik_answer pik_reminder(const uint64_t *keys, size_t keys_length, uint64_t *words, size_t words_length, uint32_t *handles, size_t handles_length,
                                uint8_t *marks, size_t marks_length, uint32_t *up, size_t up_length, uint32_t *returned, size_t returned_length,
                                uint16_t *nack, size_t nack_length, const uint8_t destination[6], const uint8_t source[6], uint8_t priority,
                                uint64_t time, uint16_t number);
 
-/* The host's clock: numbers missing for 150 ticks or more are given up, and what waited behind them goes up. Numbers 1, 3, 4, 6, 7. */
+/* The host's clock, for one channel. Once the oldest missing number has been missing for 150 ticks, it is given up as lost and what waited just behind it
+ * goes up; so with the next one, until one is reached that has not been missing for so long. Nothing is given up by itself: without a tick, a frame may
+ * wait for ever behind one that never comes. A tick asks for nothing and returns nothing. Numbers 1, 3, 4, 6, 7. */
 struct pik_answer pik_tick(const uint64_t *keys, size_t keys_length, uint64_t *words, size_t words_length, uint32_t *handles, size_t handles_length,
                            uint8_t *marks, size_t marks_length, uint32_t *up, size_t up_length, uint32_t *returned, size_t returned_length,
                            uint16_t *nack, size_t nack_length, const uint8_t destination[6], const uint8_t source[6], uint8_t priority,
                            uint64_t time);
 
-/* The channel is closed: waiting handles are returned, and its place is free. Numbers 1, 3, 4, 6, 7. */
+/* The host gives the channel up. All handles that wait come back in sequence order, none goes up, and nothing counts as lost. Its place is then zeros, and
+ * free for any channel; a later frame with the same key opens a new one. Refused, as by number 7, the channel stays open. Numbers 1, 3, 4, 6, 7. */
 struct pik_answer pik_close(uint64_t *keys, size_t keys_length, uint64_t *words, size_t words_length, uint32_t *handles, size_t handles_length,
                             uint8_t *marks, size_t marks_length, uint32_t *up, size_t up_length, uint32_t *returned, size_t returned_length,
                             uint16_t *nack, size_t nack_length, const uint8_t destination[6], const uint8_t source[6], uint8_t priority,
@@ -164,7 +186,13 @@ struct pik_view pik_look(const uint64_t *keys, size_t keys_length, const uint64_
 
 /* ---- Capability sets
  *
- * A set is a word of 32 flags. A station is six of them, kept by the host and passed by value; each event's answer has the station after it. */
+ * By these stations tell each other what they can do. A set is a word of 32 flags. A station is six of them, kept by the host and passed by value; each
+ * event's answer has the station after it. NewTx and PreviousTx are the default set with what it used in this period and in the last, together
+ * CurrentTx; OldestTx is the same of the period before. NewRx and PreviousRx are what it heard of others in this period and in the last, together
+ * CurrentRx.
+ *
+ * The host has two timers. One marks the end of each period. The other, the retransmit timer, it starts and cancels as the answers say; when that one
+ * runs out, it sends pik_station_frame once more. */
 
 struct pik_station {
     uint32_t default_set;
@@ -189,11 +217,12 @@ enum pik_timer {
     PIK_TIMER_CANCELLED = 2 /* cancel it if it runs */
 };
 
+/* The answer to an event of a station. Refused, nothing is sent or reported, the timer is kept, and the station is as it was. */
 struct pik_station_answer {
     uint8_t number;
     bool sends;                 /* a frame is to be sent now, with the sets in `frame` */
     uint8_t timer;              /* one of enum pik_timer */
-    uint32_t reported;          /* flags that are really new */
+    uint32_t reported;          /* flags that are really new: CurrentRx lacked them before. Only a received frame has such */
     struct pik_station station; /* the station after the event */
     struct pik_frame frame;     /* the sets that a frame sent after the event carries */
 };
@@ -201,16 +230,22 @@ struct pik_station_answer {
 /* A fresh station: NewTx is the default set, the others are empty. */
 struct pik_station pik_station_fresh(uint32_t default_set);
 
-/* The station uses these flags. Number 0 always. */
+/* The station begins to use these flags, and NewTx has them from now on. If CurrentTx lacked one of them, that is news: a frame with the sets after the
+ * event is to be sent now, and the retransmit timer is started. If it had them all, nothing is sent and the timer is kept. Number 0 always. */
 struct pik_station_answer pik_station_use(struct pik_station station, uint32_t flags);
 
-/* The host's period timer ran out. Number 0 always. */
+/* A period is over. Each set takes the place of the older one: PreviousTx becomes OldestTx, NewTx becomes PreviousTx, NewRx becomes PreviousRx; the new
+ * period begins with the default set in NewTx and nothing in NewRx. A frame with the sets after that is sent each time. The retransmit timer is started
+ * anew where CurrentTx and OldestTx are then different, and cancelled where they are equal. Number 0 always. */
 struct pik_station_answer pik_station_period(struct pik_station station);
 
-/* A capability frame came in. Number 30, or 0. */
+/* A capability frame of another station came in, with these sets. NewRx takes its CurrentTx in, and `reported` has the flags that CurrentRx did not have
+ * before. What the sender no longer uses, and so has in OldestTx but not in CurrentTx, then leaves NewRx and PreviousRx. Opcode 1 asks for an answer:
+ * it starts the retransmit timer. Opcode 0 keeps it. Nothing is sent at once, and the frame's CurrentRx changes nothing. Number 30, or 0. */
 struct pik_station_answer pik_station_receive(struct pik_station station, uint8_t opcode, struct pik_frame frame);
 
-/* The sets that a frame sent now carries: what the host sends when its retransmit timer runs out. */
+/* The sets that a frame sent now carries: OldestTx, CurrentTx and CurrentRx. It is what the host sends when its retransmit timer runs out; that is no
+ * event, and the station stays as it is. */
 struct pik_frame pik_station_frame(struct pik_station station);
 
 /* ---- Rate requests */
@@ -243,11 +278,12 @@ struct pik_written {
     size_t count;
 };
 
-/* Reads a frame of any length. Numbers 10 to 22. */
+/* Reads a frame, which came without its check sequence, and says what its fixed fields are and where in it the addresses stand; nothing is copied. A
+ * third band and further ones are counted but not looked at, nor is anything after Next Ethertype. Any length may be given. Numbers 10 to 22, or 0. */
 struct pik_reading pik_rate_read(const uint8_t *frame, size_t frame_length);
 
 /* Writes a request with these addresses, six octets each, from the start of the output on: 60 octets, or more if the addresses need it, 270 at most.
- * Octets past the count are as they were. Numbers 15, 16, 23, 18, 19, 20, 21, 24, in this order. */
+ * Octets past the count are as they were. Refused, all of the output is. Numbers 15, 16, 23, 18, 19, 20, 21, 24, in this order, or 0. */
 struct pik_written pik_rate_write(uint8_t *out, size_t out_length, struct pik_request request, const uint8_t *addresses,
                                   size_t addresses_length);
 

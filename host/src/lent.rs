@@ -66,8 +66,8 @@ pub struct Buffers<'a> {
 /// The arguments that all four events begin with. They are apart, as `&mut` slices are, and live as long as the call.
 macro_rules! call {
     ($function:ident, $keys:ident, $slices:ident, $buffers:ident, $channel:ident, $($own:expr),+) => {
-        // SAFETY: each pointer is a slice's, with its own length; what is written is borrowed by `&mut`, so it overlaps
-        // nothing else; the function keeps none of them.
+        // SAFETY: each pointer is a slice's, with its own length, so it is aligned, and not null where the slice is empty;
+        // what is written is borrowed by `&mut`, so it overlaps nothing else and nobody else sees it; none of them is kept.
         unsafe {
             raw::$function(
                 $slices.keys.$keys(),
@@ -93,7 +93,7 @@ macro_rules! call {
     };
 }
 
-/// A data frame with this number came in; the handle stands for its body.
+/// A data frame with this number came in; the handle stands for its body. See [`Table::data`](crate::Table::data).
 pub fn data(
     slices: Slices<'_>,
     buffers: Buffers<'_>,
@@ -105,22 +105,23 @@ pub fn data(
     call!(pik_data, as_mut_ptr, slices, buffers, channel, time, number, handle)
 }
 
-/// A reminder of this number came in.
+/// A reminder of this number came in. See [`Table::reminder`](crate::Table::reminder).
 pub fn reminder(slices: Slices<'_>, buffers: Buffers<'_>, channel: &Channel, time: u64, number: u16) -> raw::Answer {
     call!(pik_reminder, as_ptr, slices, buffers, channel, time, number)
 }
 
-/// The host's clock: what has been missing for 150 ticks is given up.
+/// The host's clock: what has been missing for 150 ticks is given up. See [`Table::tick`](crate::Table::tick).
 pub fn tick(slices: Slices<'_>, buffers: Buffers<'_>, channel: &Channel, time: u64) -> raw::Answer {
     call!(pik_tick, as_ptr, slices, buffers, channel, time)
 }
 
-/// The channel is closed, and its place is free.
+/// The channel is closed, and its place is free. See [`Table::close`](crate::Table::close).
 pub fn close(slices: Slices<'_>, buffers: Buffers<'_>, channel: &Channel, time: u64) -> raw::Answer {
     call!(pik_close, as_mut_ptr, slices, buffers, channel, time)
 }
 
-/// Empties a table, whatever it held. Slices of another length are refused by number 1.
+/// Empties a table, whatever it held: all four slices are zeros, and what waited is not returned. Number 0; slices of
+/// another length are refused by number 1, and stay as they are.
 pub fn empty(slices: Slices<'_>) -> u8 {
     // SAFETY: as in `call!`.
     unsafe {
@@ -138,7 +139,7 @@ pub fn empty(slices: Slices<'_>) -> u8 {
 }
 
 /// A look at a channel's record: for each number from the oldest missing to the current one, 1 and the handle where it
-/// waits, 0 and the time since when it is missing.
+/// waits, 0 and the time since when it is missing. Both buffers must have 32 entries at least; those past the span stay.
 pub fn look(shown: Shown<'_>, channel: &Channel, waits: &mut [u8], values: &mut [u64]) -> raw::View {
     // SAFETY: as in `call!`; the table is only read.
     unsafe {

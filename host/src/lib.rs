@@ -6,7 +6,7 @@
 //!
 //! The work is done in the archive `libwallbox.a`, each of whose functions is proved to do what is said of it on every
 //! input. This crate adds nothing but Rust's types, so that safe code cannot break what the archive leaves to its
-//! caller: pointers, lengths, and slices that are apart. [`raw`] has the archive's functions as they are, and [`lent`]
+//! caller: pointers that are valid and aligned, lengths that are theirs, and slices that are apart. [`raw`] has the archive's functions as they are, and [`lent`]
 //! the channel events on any slices of the caller's.
 //!
 //! ```

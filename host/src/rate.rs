@@ -25,7 +25,8 @@ pub struct Reading<'a> {
     pub addresses: &'a [u8],
 }
 
-/// Reads a frame.
+/// Reads a frame, which came without its check sequence: its fixed fields, and where in it the addresses stand. A third
+/// band and further ones are counted but not looked at, nor is anything after Next Ethertype.
 ///
 /// # Errors
 ///

@@ -9,8 +9,17 @@ use crate::{raw, Refusal};
 /// A frame's body stays with the host; the table sees a handle. Of each handle that is taken, the table says once that it
 /// goes up or comes back, unless it still waits.
 ///
-/// A time is the host's count of ticks, in a unit of the host's. On one channel it may stand still but not go back. One
-/// call serves one channel: a host with several open channels ticks each of them.
+/// A channel has a current number, the newest that it knows to be sent, and an oldest missing number, which it expects
+/// next. Numbers 0 to 4,095 go round: 0 follows 4,095, and of two numbers it is the shorter way that says which one is
+/// ahead. A frame that comes early waits, in a window of 32 numbers up to the current one. Where the current number moves
+/// on by so much that older numbers leave the window, those that waited go up and those that were missing are lost.
+///
+/// A time is the host's count of ticks, in a unit of the host's. On one channel it may stand still but not go back. Each
+/// event that is not refused sets the channel's latest time. One call serves one channel: a host with several open
+/// channels ticks each of them.
+///
+/// Numbers to be asked for again are told once, in the call that finds them missing. Sending the request, and again
+/// later, is the host's part.
 #[derive(Clone, Debug)]
 pub struct Table {
     keys: Box<[u64]>,
@@ -77,9 +86,18 @@ impl Table {
         }
     }
 
-    /// A data frame with this number came in on a channel; the handle stands for its body. A frame of a channel that is
-    /// not open opens it. A number more than 64 from the current one restarts it: what waited is returned, and the frame
-    /// goes up.
+    /// A data frame with this number came in on a channel; the handle stands for its body. What is done with it depends on
+    /// where it lies:
+    ///
+    /// - No such channel is open: the frame opens one at the first free place, and goes up.
+    /// - 1 to 64 ahead of the current number: it is the current one now. The numbers that it skipped are missing from this
+    ///   time on and are asked for, but for those that left the window at once. The frame waits behind them; where none is
+    ///   missing it goes up in this call.
+    /// - The current number, or up to 64 behind it: if the number is missing, the frame fills the gap, and goes up with all
+    ///   that waited just behind it, as soon as no older number is missing. If not, the handle is returned: the number
+    ///   waits already, or the channel is past it.
+    /// - Farther away, either way: the sender has begun anew, and so does the channel. What waited is returned, the frame
+    ///   goes up, and nothing counts as lost.
     ///
     /// # Errors
     ///
@@ -88,7 +106,12 @@ impl Table {
         self.event(|slices, buffers| lent::data(slices, buffers, channel, time, number, handle))
     }
 
-    /// A reminder came in: the sender's current number.
+    /// A reminder came in: the sender says up to which number it has sent.
+    ///
+    /// If that is 1 to 64 ahead, it is the current number now; it and all that lie between are missing from this time on and
+    /// are asked for, but for those that left the window at once. If it is the current one or up to 64 behind, the table
+    /// knew of it already, and only the latest time changes. A reminder brings no frame, so it neither opens a channel nor
+    /// restarts one.
     ///
     /// # Errors
     ///
@@ -97,7 +120,12 @@ impl Table {
         self.event(|slices, buffers| lent::reminder(slices, buffers, channel, time, number))
     }
 
-    /// The host's clock: numbers missing for 150 ticks or more are given up, and what waited behind them goes up.
+    /// The host's clock, for one channel.
+    ///
+    /// Once the oldest missing number has been missing for 150 ticks, it is given up as lost and what waited just behind it
+    /// goes up; so with the next one, until one is reached that has not been missing for so long. Nothing is given up by
+    /// itself: without a tick, a frame may wait for ever behind one that never comes. A tick asks for nothing and returns
+    /// nothing.
     ///
     /// # Errors
     ///
@@ -106,7 +134,10 @@ impl Table {
         self.event(|slices, buffers| lent::tick(slices, buffers, channel, time))
     }
 
-    /// The channel is closed: waiting handles are returned, and its place is free.
+    /// The host gives the channel up.
+    ///
+    /// All handles that wait come back in sequence order, none goes up, and nothing counts as lost. Its place is free for
+    /// any channel; a later frame with the same key opens a new one. Refused, the channel stays open.
     ///
     /// # Errors
     ///
@@ -121,7 +152,8 @@ impl Table {
         lent::empty(self.slices_and_buffers().0);
     }
 
-    /// A look at a channel's record; nothing changes by it.
+    /// A look at a channel's record: what it expects next, what waits, and what is missing since when. Nothing changes by
+    /// it, not even the latest time.
     ///
     /// # Errors
     ///
