@@ -1,5 +1,8 @@
 //! The archive's functions as they are; `include/pikurandal.h` says what each does and what its caller owes.
 
+/// The number of an answer that is no refusal.
+pub const ACCEPTED: u8 = 0;
+
 /// The answer to a channel event: the number, the count of entries written in each buffer, and how many numbers were
 /// given up as lost.
 #[repr(C)]

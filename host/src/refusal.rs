@@ -1,5 +1,6 @@
 //! The numbers of document 01, 'Numbers the box may answer with'.
 
+use crate::raw::ACCEPTED;
 use std::error::Error;
 use std::fmt;
 
@@ -43,13 +44,14 @@ pub enum Refusal {
     Band1 = 18,
     /// 19: band 2 is there, and its PE is neither 0 nor 9 to 15.
     Band2 = 19,
-    /// 20: the rank of band 1, or of a band 2 that is there, is 0; or the two are equal.
+    /// 20: a rank is 0, where band 2's counts only if there is a band 2; or both bands have the same.
     Ranks = 20,
     /// 21: an extra address is no group address.
     NoGroup = 21,
     /// 22: Next Ethertype is not 0.
     NextEthertype = 22,
-    /// 23: a frame's layout cannot hold the request.
+    /// 23: no frame holds the request. An address is not whole; there is a third band; beside one band, PE and rank of band 2
+    /// are not both 0; or SSLength would not be an octet.
     Layout = 23,
     /// 24: the output is too short.
     Output = 24,
@@ -98,7 +100,7 @@ impl Refusal {
 
     /// Accepted, or the refusal of an answer's number.
     pub(crate) fn unless_accepted(number: u8) -> Result<(), Refusal> {
-        if number == 0 {
+        if number == ACCEPTED {
             return Ok(());
         }
         Err(Refusal::of_number(number).expect("a number that the archive is proved never to give"))

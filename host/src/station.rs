@@ -7,13 +7,23 @@ pub use crate::raw::Frame;
 
 /// What the host is to do with its retransmit timer.
 #[derive(Clone, Copy, Debug, PartialEq, Eq, Hash)]
+#[repr(u8)]
 pub enum Timer {
     /// Nothing.
-    Kept,
+    Kept = 0,
     /// Cancel it if it runs, and start it.
-    Started,
+    Started = 1,
     /// Cancel it if it runs.
-    Cancelled,
+    Cancelled = 2,
+}
+
+impl Timer {
+    /// All orders, by rising number.
+    pub const ALL: [Timer; 3] = [Timer::Kept, Timer::Started, Timer::Cancelled];
+
+    fn of_number(number: u8) -> Option<Timer> {
+        Timer::ALL.into_iter().find(|order| *order as u8 == number)
+    }
 }
 
 /// What an event asks of the host.
@@ -23,11 +33,18 @@ pub struct Order {
     pub sends: Option<Frame>,
     /// The retransmit timer's order.
     pub timer: Timer,
-    /// Flags that are really new.
+    /// Flags that are really new: CurrentRx lacked them before. Only a received frame has such.
     pub reported: u32,
 }
 
 /// A station: its default set and five more. A set is a word of 32 flags.
+///
+/// NewTx and PreviousTx are the default set with what it used in this period and in the last, together CurrentTx; OldestTx
+/// is the same of the period before. NewRx and PreviousRx are what it heard of others in this period and in the last,
+/// together CurrentRx.
+///
+/// The host has two timers. One marks the end of each period. The other, the retransmit timer, it starts and cancels as
+/// the orders say; when that one runs out, it sends [`Station::frame`] once more.
 ///
 /// ```
 /// use pikurandal::{Station, Timer};
@@ -60,21 +77,34 @@ impl Station {
         self.sets
     }
 
-    /// The station uses these flags.
+    /// The station begins to use these flags, and NewTx has them from now on.
+    ///
+    /// If CurrentTx lacked one of them, that is news: a frame with the sets after the event is to be sent now, and the
+    /// retransmit timer is started. If it had them all, nothing is sent and the timer is kept.
     pub fn use_flags(&mut self, flags: u32) -> Order {
         // SAFETY: plain numbers by value.
         let answer = unsafe { raw::pik_station_use(self.sets, flags) };
         self.take(answer)
     }
 
-    /// The host's period timer ran out.
+    /// A period is over.
+    ///
+    /// Each set takes the place of the older one: PreviousTx becomes OldestTx, NewTx becomes PreviousTx, NewRx becomes
+    /// PreviousRx; the new period begins with the default set in NewTx and nothing in NewRx. A frame with the sets after
+    /// that is sent each time. The retransmit timer is started anew where CurrentTx and OldestTx are then different, and
+    /// cancelled where they are equal.
     pub fn end_period(&mut self) -> Order {
         // SAFETY: plain numbers by value.
         let answer = unsafe { raw::pik_station_period(self.sets) };
         self.take(answer)
     }
 
-    /// A capability frame came in.
+    /// A capability frame of another station came in, with these sets.
+    ///
+    /// NewRx takes its CurrentTx in, and the order reports the flags that CurrentRx did not have before. What the sender no
+    /// longer uses, and so has in OldestTx but not in CurrentTx, then leaves NewRx and PreviousRx. Opcode 1 asks for an
+    /// answer: it starts the retransmit timer. Opcode 0 keeps it. Nothing is sent at once, and the frame's CurrentRx
+    /// changes nothing.
     ///
     /// # Errors
     ///
@@ -86,7 +116,8 @@ impl Station {
         Ok(self.take(answer))
     }
 
-    /// The sets that a frame sent now carries: what the host sends when its retransmit timer runs out.
+    /// The sets that a frame sent now carries: OldestTx, CurrentTx and CurrentRx. It is what the host sends when its
+    /// retransmit timer runs out; that is no event, and the station stays as it is.
     pub fn frame(&self) -> Frame {
         // SAFETY: plain numbers by value.
         unsafe { raw::pik_station_frame(self.sets) }
@@ -96,11 +127,7 @@ impl Station {
         self.sets = answer.station;
         Order {
             sends: answer.sends.then_some(answer.frame),
-            timer: match answer.timer {
-                0 => Timer::Kept,
-                1 => Timer::Started,
-                _ => Timer::Cancelled,
-            },
+            timer: Timer::of_number(answer.timer).expect("an order that the archive is proved never to give"),
             reported: answer.reported,
         }
     }

@@ -1,7 +1,7 @@
 //! The C header and the binding agree: sizes and offsets of every struct, the lengths of slices, and the numbers. The
 //! binding's account of them is written as a file of C that claims each, and a C compiler holds it against the header.
 
-use pikurandal::{lent, raw, Refusal};
+use pikurandal::{lent, raw, Refusal, Timer};
 use std::fs;
 use std::mem::size_of;
 use std::path::Path;
@@ -89,16 +89,20 @@ fn numbers() -> Vec<String> {
         ("PIK_BUFFER", lent::BUFFER),
     ];
     let lengths = lengths.iter().map(|(name, length)| claim(name, *length));
+    let accepted = [claim("PIK_ACCEPTED", raw::ACCEPTED.into())];
     let refusals = Refusal::ALL
         .iter()
-        .map(|refusal| claim(&c_name(*refusal), refusal.number().into()));
-    lengths.chain(refusals).collect()
+        .map(|refusal| claim(&c_name("PIK", refusal), refusal.number().into()));
+    let timers = Timer::ALL
+        .iter()
+        .map(|order| claim(&c_name("PIK_TIMER", order), *order as usize));
+    lengths.chain(accepted).chain(refusals).chain(timers).collect()
 }
 
-/// The header's name of a refusal: `NoNumber` is `PIK_NO_NUMBER`, `Band1` is `PIK_BAND_1`.
-fn c_name(refusal: Refusal) -> String {
-    let mut name = "PIK".to_string();
-    for letter in format!("{refusal:?}").chars() {
+/// The header's name of a case: the refusal `NoNumber` is `PIK_NO_NUMBER`, `Band1` is `PIK_BAND_1`.
+fn c_name(prefix: &str, case: &impl std::fmt::Debug) -> String {
+    let mut name = prefix.to_string();
+    for letter in format!("{case:?}").chars() {
         if letter.is_uppercase() || letter.is_ascii_digit() {
             name.push('_');
         }
@@ -146,6 +150,6 @@ fn a_wrong_claim_is_seen() {
 }
 
 #[test]
-fn a_table_has_the_octets_that_the_plan_allows() {
+fn a_table_has_the_octets_that_docs_layout_md_says() {
     assert_eq!(8 * (lent::KEYS + lent::WORDS) + 4 * lent::HANDLES + lent::MARKS, 29_184);
 }
