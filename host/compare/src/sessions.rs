@@ -114,7 +114,7 @@ impl Pair {
         agree(key, given.map_err(Refusal::number), self.peers_table.look(key).cloned())
     }
 
-    /// The orders of both stations, and the sets after them.
+    /// The orders of both stations, the frames that they send, and the sets after them.
     fn orders_agree(
         &mut self,
         event: &Event,
@@ -122,6 +122,7 @@ impl Pair {
         peers: impl FnOnce(&mut capability::Station) -> capability::Order,
     ) -> Result<(), String> {
         let expected = peers(&mut self.peers_station);
+        let sent = given.as_ref().ok().and_then(|order| order.sends);
         let given = match given {
             Ok(order) => capability::Order {
                 number: 0,
@@ -139,16 +140,21 @@ impl Pair {
             },
         };
         agree(event, given, expected)?;
+        agree(event, sent, expected.sent.then(|| frame_of(&self.peers_station)))?;
         self.stations_agree(event)
     }
 
     fn stations_agree(&self, event: &Event) -> Result<(), String> {
-        let sets = |station: &capability::Station| Frame {
-            oldest_tx: station.oldest_tx(),
-            current_tx: station.current_tx(),
-            current_rx: station.current_rx(),
-        };
-        agree(event, self.station.frame(), sets(&self.peers_station))
+        agree(event, self.station.frame(), frame_of(&self.peers_station))
+    }
+}
+
+/// What a frame of `peer`'s station carries.
+fn frame_of(station: &capability::Station) -> Frame {
+    Frame {
+        oldest_tx: station.oldest_tx(),
+        current_tx: station.current_tx(),
+        current_rx: station.current_rx(),
     }
 }
 
