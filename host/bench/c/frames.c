@@ -30,19 +30,25 @@ static inline uint8_t judge_bands(struct pik_request q)
     return PIK_ACCEPTED;
 }
 
-struct pik_reading PEER_FN(rate_read)(const uint8_t *frame, size_t frame_length)
+/* Numbers 10 to 14. */
+static inline uint8_t judge_start(const uint8_t *frame, size_t frame_length)
 {
     if (frame_length < SHORTEST || frame_length > LONGEST)
-        return (struct pik_reading){.number = PIK_FRAME_LENGTH};
+        return PIK_FRAME_LENGTH;
     if (frame[12] != 0x88 || frame[13] != 0x6c)
-        return (struct pik_reading){.number = PIK_ETHERTYPE};
+        return PIK_ETHERTYPE;
     if (frame[14] != 1)
-        return (struct pik_reading){.number = PIK_SS_TYPE};
-    size_t ss_length = frame[15];
-    if (ss_length < 8 || HEADER + ss_length > frame_length)
-        return (struct pik_reading){.number = PIK_SS_LENGTH};
-    if (frame[16] != 0)
-        return (struct pik_reading){.number = PIK_SS_VERSION};
+        return PIK_SS_TYPE;
+    if (frame[15] < 8 || HEADER + (size_t)frame[15] > frame_length)
+        return PIK_SS_LENGTH;
+    return frame[16] == 0 ? PIK_ACCEPTED : PIK_SS_VERSION;
+}
+
+struct pik_reading PEER_FN(rate_read)(const uint8_t *frame, size_t frame_length)
+{
+    uint8_t refusal = judge_start(frame, frame_length);
+    if (refusal)
+        return (struct pik_reading){.number = refusal};
     struct pik_reading r = {.addresses = frame[19]};
     struct pik_request *q = &r.request;
     memcpy(q->destination, frame, 6);
@@ -55,7 +61,7 @@ struct pik_reading PEER_FN(rate_read)(const uint8_t *frame, size_t frame_length)
         return (struct pik_reading){.number = PIK_NO_BAND};
     r.start = BANDS + 2 * (size_t)q->bands;
     r.extent = 6 * (size_t)r.addresses;
-    if (HEADER + ss_length != r.start + r.extent + 2)
+    if (HEADER + (size_t)frame[15] != r.start + r.extent + 2)
         return (struct pik_reading){.number = PIK_COUNTS};
     q->pe1 = frame[20];
     q->rank1 = frame[21];
@@ -63,7 +69,7 @@ struct pik_reading PEER_FN(rate_read)(const uint8_t *frame, size_t frame_length)
         q->pe2 = frame[22];
         q->rank2 = frame[23];
     }
-    uint8_t refusal = judge_bands(*q);
+    refusal = judge_bands(*q);
     if (refusal)
         return (struct pik_reading){.number = refusal};
     if (!groups(frame + r.start, r.addresses))
