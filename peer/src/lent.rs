@@ -146,8 +146,8 @@ impl Table {
 /// The first place where the slices after a call do not mean `table`, if there is one. All slices are those of 64
 /// places.
 ///
-/// An open place must have the key and the record: C, M, the latest time, and for each number from M to C whether it
-/// waits with its handle or is missing with its time. A place that the call freed must be zeros; one that was free
+/// An open place must have the key and the record: C, M, the latest time, and a cell for every number from M to C, a
+/// handle where it waits or a time where it is missing. A place that the call freed must be zeros; one that was free
 /// before the call must be as it was, which is zeros too unless it was handed in otherwise.
 pub fn first_difference(before: &Slices<'_>, table: &Table, after: &Slices<'_>) -> Option<usize> {
     let agrees = |(index, place): (usize, &Place)| {

@@ -77,7 +77,7 @@ impl Record {
         answer
     }
 
-    /// Any other distance: all waiting handles are returned in sequence order; C = s, M = s + 1, s is handed up.
+    /// Any other distance: what waits comes back in sequence order, and the record is as one that s has just opened.
     fn restart(&mut self, time: u64, s: u64, handle: u32) -> Answer {
         let returned = self.waiting();
         *self = Record::opened(s, time);
@@ -96,7 +96,8 @@ impl Record {
         }
     }
 
-    /// Settling; then the numbers to ask for: those made missing by this call and still in the window, rising.
+    /// Settling; then the numbers to ask for: of those that the event made missing, what settling has left, in sequence
+    /// order.
     fn settle_and_ask(&mut self, made_missing: &[u64]) -> Answer {
         let mut answer = Answer::default();
         self.settle(&mut answer);
@@ -112,7 +113,7 @@ impl Record {
         }
     }
 
-    /// A waiting M is handed up, a missing M is counted lost, and M moves on by one.
+    /// M goes up if it waits and is lost if it is missing; the next number is M then.
     fn pass_oldest(&mut self, answer: &mut Answer) {
         match self.cells.remove(0) {
             Cell::Waits(handle) => answer.up.push(handle),
@@ -121,7 +122,7 @@ impl Record {
         self.oldest = ring::step(self.oldest, 1);
     }
 
-    /// Whether M is missing and its time is 150 or more ticks ago, over the whole numbers.
+    /// Whether M has been missing for 150 ticks or longer, over the whole numbers.
     fn oldest_is_overdue(&self, time: u64) -> bool {
         match self.cells.first() {
             Some(Cell::Missing(since)) => u128::from(time) >= u128::from(*since) + u128::from(PATIENCE),

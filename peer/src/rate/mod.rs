@@ -65,8 +65,7 @@ impl Request {
         self.num_bands >= 2
     }
 
-    /// 18: band 1 PE not in 1 to 7. 19: band 2 present and its PE not 0 or 9 to 15. 20: the rank of band 1 or of a
-    /// present band 2 is 0, or the two are equal.
+    /// Numbers 18 to 20: the PE of band 1, the PE of band 2 where there is one, and the ranks.
     fn check_bands(&self) -> Result<(), Number> {
         refuse(18, !matches!(self.band_1.pe, 1..=7))?;
         refuse(19, self.has_band_2() && !matches!(self.band_2.pe, 0 | 9..=15))?;
@@ -76,7 +75,7 @@ impl Request {
     }
 }
 
-/// 21: an extra address whose first octet has low bit 0.
+/// Number 21: each address has to be a group address, which the lowest bit of its first octet says.
 fn check_addresses(addresses: &[u8]) -> Result<(), Number> {
     refuse(21, addresses.chunks(6).any(|address| address[0] % 2 == 0))
 }

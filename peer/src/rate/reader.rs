@@ -8,7 +8,7 @@ use crate::table::Address;
 /// The longest frame.
 const LONGEST: usize = 1_514;
 
-/// An accepted request: its fixed fields, and the caller's own octets that hold the addresses.
+/// An accepted request: its fixed fields, and of the caller's frame the octets where the addresses stand.
 #[derive(Clone, Copy, Debug, PartialEq, Eq)]
 pub struct Reading<'a> {
     /// The fixed fields.

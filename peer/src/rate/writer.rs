@@ -24,8 +24,8 @@ pub fn write(request: &Request, addresses: &[u8], output: &mut [u8]) -> Result<u
     Ok(frame.len())
 }
 
-/// 23: address octets not a multiple of 6, or more than two bands, or one band and a band 2 not PE 0, rank 0, or
-/// SSLength would exceed 255.
+/// Number 23: no frame has this layout. Addresses are whole, there are at most two bands, a request for one band says
+/// nothing of another, and SSLength is an octet.
 fn cannot_be_written(request: &Request, addresses: &[u8]) -> bool {
     addresses.len() % 6 != 0
         || request.num_bands > 2
