@@ -97,3 +97,8 @@ fn any_station(random: &mut Random) -> Station {
         previous_rx: random.word() as u32,
     }
 }
+
+#[test]
+fn all_implementations_answer_alike() {
+    assert_eq!(seen(&crate::implementations::all(), &Scenarios::all()), Ok(()));
+}
