@@ -254,10 +254,10 @@ struct pik_frame pik_station_frame(struct pik_station station);
 struct pik_request {
     uint8_t destination[6];
     uint8_t source[6];
-    uint8_t opcode;
-    uint8_t bands;
-    uint8_t pe1;
-    uint8_t rank1;
+    uint8_t opcode; /* 0: change the rate; 1: ask for test frames; 2: such a test frame */
+    uint8_t bands;  /* NumBands, how many the frame has */
+    uint8_t pe1;    /* a band's payload encoding, which pik_rate_of turns into a rate */
+    uint8_t rank1;  /* how much the band is wanted: the lower rank first */
     uint8_t pe2;
     uint8_t rank2;
 };
@@ -287,7 +287,7 @@ struct pik_reading pik_rate_read(const uint8_t *frame, size_t frame_length);
 struct pik_written pik_rate_write(uint8_t *out, size_t out_length, struct pik_request request, const uint8_t *addresses,
                                   size_t addresses_length);
 
-/* The rate of a PE in Mbit/s, or 0 where it has none. */
+/* The rate of a PE in Mbit/s, or 0 where it has none: 4 to 16 for PE 1 to 7, 8 to 32 for PE 9 to 15. */
 uint8_t pik_rate_of(uint8_t pe);
 
 /* The band that a request chooses: 1 or 2, the one of lowest rank whose PE is not 0; 0 where both PEs are 0, which no accepted request has. */
