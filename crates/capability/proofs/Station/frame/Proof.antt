@@ -10,7 +10,7 @@ current-requires-2 : tie.Need-current-requires-2
 current-requires-2 c κs = search needs
 
 returns : tie.Need-returns
-returns c = cc
+returns c = rw (c .before .current .ensures, c .current2 .ensures)
 
 pub frame-spec : {M : Type 1} → statement M
 frame-spec = tie.close (tie.spec current-requires current-requires-2 returns)
