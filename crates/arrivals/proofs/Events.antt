@@ -19,10 +19,10 @@ use Rattle.ring.specs.Ring.{steps, Side, Ahead, Behind, Far}
 use Rattle.channel.specs.Call.{Parts, parts, Buffers, buffers, eventAt, ruleAt, Called, Says}
 use Rattle.record.specs.Place.{recordOf}
 use Rattle.channel.specs.declared.Answer.{Answer}
-use Rattle.table.specs.First.{places, firstPlace, storesNone}
+use Rattle.table.specs.First.{places, firstPlace, stores, storesNone}
 use Rattle.table.specs.Key.{keyOf, firstWord}
 use Rattle.table.specs.Table.{Slices, slices, placeAt}
-use Rattle.table.specs.Way.{lentOf, judged, placeFor, wayBy, dataWayBy}
+use Rattle.table.specs.Way.{lentOf, judged, placeFor, waySays, wayFor, dataWaySays, dataWayFor}
 use Rattle.arrivals.specs.Writes.{keyed, Opens}
 use Rattle.table.specs.Addressed.{isOf}
 use Rattle.arrivals.specs.Event.{eventOf, Did, Call}
@@ -32,7 +32,8 @@ use Rattle.table.specs.declared.way.DataWay.{DataWay}
 use Rattle.table.proofs.Parts.{put, lent, lent-part}
 use Rattle.table.proofs.Places.{finds}
 use Rattle.table.proofs.Stored.{place-is, spare-is}
-use Rattle.table.proofs.Ways.{Passed, judged-passed, whole-sizes, lent-whole, lent-room, known-way, refused-way, unknown-way, data-way-known, data-way-free, data-way-refused}
+use Rattle.table.proofs.Saying.{way-of-key, data-way-of-key}
+use Rattle.table.proofs.Ways.{wayBy, dataWayBy, Passed, judged-passed, whole-sizes, lent-whole, lent-room, known-way, refused-way, unknown-way, data-way-known, data-way-free, data-way-refused}
 use Rattle.arrivals.proofs.Ruled.{partsAt, early-refused, unknown-refused, full-refused}
 use Rattle.arrivals.proofs.Promised.{KeysAfter, refused-did}
 use Rattle.arrivals.proofs.Known.{within, known-did}
@@ -97,17 +98,27 @@ module _ (c : Told) where
   abbrev pub key : Key
   key = keyOf (c .destination) (c .source) (c .priority)
 
+  abbrev pub lentNow : Lent
+  lentNow =
+      lentOf (length (c .keys)) (length (c .words)) (length (c .handles)) (length (c .marks)) (length (c .up)) (length (c .returned)) (length (c .nack))
+
   abbrev pub judgement : ℕ → ℕ
-  judgement number =
-      judged
-      (lentOf (length (c .keys)) (length (c .words)) (length (c .handles)) (length (c .marks)) (length (c .up)) (length (c .returned)) (length (c .nack)))
-      number (c .priority)
+  judgement number = judged lentNow number (c .priority)
 
   abbrev pub way : ℕ → Way
   way number = wayBy (judgement number) (placeFor (c .keys) key)
 
   abbrev pub dataWay : ℕ → DataWay
   dataWay number = dataWayBy (way number) (firstPlace (storesNone (c .keys)))
+
+  -- the way that was looked for by the two words of the key
+  module _ (number x y : ℕ) (one : x ≡ firstWord key) (two : y ≡ key .source) where
+    pub by-key : (w : Way) → waySays w ≡ wayFor lentNow number (c .priority) (firstPlace (stores (c .keys) x y)) → w ≡ way number
+    by-key w e = way-of-key lentNow number (c .keys) key x y one two w e
+
+    pub by-data-key : (w : DataWay) → dataWaySays w ≡ dataWayFor lentNow number (c .priority) (firstPlace (stores (c .keys) x y)) (firstPlace (storesNone (c .keys)))
+        → w ≡ dataWay number
+    by-data-key w e = data-way-of-key lentNow number (c .keys) key x y one two w e
 
 -- what a call that goes to place i knows: the place is one of the 64, and the slices are as long as they should be
 pub record Goes (c : Told) (i : ℕ) : Type 0 where

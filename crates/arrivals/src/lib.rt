@@ -44,6 +44,8 @@ pub fn data(
         (buffers (now (up .entry)) (now (returned .entry)) (now (nack .entry)))
         (buffers (now (up .exit)) (now (returned .exit)) (now (nack .exit))) r ⌝ }
 {
+    let first = first_word(destination, priority);
+    let second = address(source);
     let way = data_way_of(
         keys,
         words.len(),
@@ -53,8 +55,8 @@ pub fn data(
         returned.len(),
         nack.len(),
         number,
-        destination,
-        source,
+        first,
+        second,
         priority,
     );
     match way {
@@ -73,17 +75,7 @@ pub fn data(
                 time,
             )
         }
-        DataWay::Free(i) => open_at(
-            keys,
-            words,
-            up,
-            i,
-            first_word(destination, priority),
-            address(source),
-            number,
-            handle,
-            time,
-        ),
+        DataWay::Free(i) => open_at(keys, words, up, i, first, second, number, handle, time),
         DataWay::Refused(n) => refused(n),
     }
 }

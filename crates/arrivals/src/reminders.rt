@@ -9,6 +9,8 @@ use channel::refused;
 use table::SLOTS;
 use table::WORDS;
 use table::Way;
+use table::address;
+use table::first_word;
 use table::way_of;
 
 // A reminder that number `number` was sent.
@@ -41,8 +43,8 @@ pub fn reminder(
         returned.len(),
         nack.len(),
         number,
-        destination,
-        source,
+        first_word(destination, priority),
+        address(source),
         priority,
     );
     match way {

@@ -18,6 +18,8 @@ use channel::refused;
 use table::SLOTS;
 use table::WORDS;
 use table::Way;
+use table::address;
+use table::first_word;
 use table::way_of;
 pub use ticks::tick;
 use writes::free_key;
@@ -51,8 +53,8 @@ pub fn close(
         returned.len(),
         nack.len(),
         0,
-        destination,
-        source,
+        first_word(destination, priority),
+        address(source),
         priority,
     );
     match way {

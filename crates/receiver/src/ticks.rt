@@ -9,6 +9,8 @@ use channel::refused;
 use table::SLOTS;
 use table::WORDS;
 use table::Way;
+use table::address;
+use table::first_word;
 use table::way_of;
 
 // Time has passed: numbers that are missing for 150 ticks or more are given up.
@@ -40,8 +42,8 @@ pub fn tick(
         returned.len(),
         nack.len(),
         0,
-        destination,
-        source,
+        first_word(destination, priority),
+        address(source),
         priority,
     );
     match way {

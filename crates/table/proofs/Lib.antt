@@ -1,6 +1,8 @@
 pub mod First
+pub mod Walking
 pub mod Ways
 pub mod Saying
+pub mod Settled
 pub mod Places
 pub mod Parts
 pub mod Stored

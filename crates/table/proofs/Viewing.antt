@@ -14,7 +14,7 @@ use Rattle.record.specs.Place.{recordOf}
 use Rattle.table.specs.First.{places, stores}
 use Rattle.table.specs.Key.{firstWord}
 use Rattle.table.specs.Table.{Slices, slices, part, placeAt, tableOf}
-use Rattle.table.specs.Way.{lentOf, judged, placeFor, wayBy}
+use Rattle.table.specs.Way.{lentOf, judged, placeFor}
 use Rattle.table.specs.Look.{unseen, shownAt, shownFirst, shownOf, lentFor, Looked}
 use Rattle.table.specs.declared.looking.View.{View}
 use Rattle.table.specs.declared.lookup.Found.the-variants.{At, Nothing}
@@ -22,7 +22,7 @@ use Rattle.table.specs.declared.way.Way.{Way}
 use Rattle.table.proofs.Parts.{lent, lent-part}
 use Rattle.table.proofs.Places.{channels-found, channels-none, finds}
 use Rattle.table.proofs.Stored.{own-place, place-is}
-use Rattle.table.proofs.Ways.{Passed, judged-passed, whole-sizes, lent-whole, lent-room, known-way, refused-way}
+use Rattle.table.proofs.Ways.{wayBy, Passed, judged-passed, whole-sizes, lent-whole, lent-room, known-way, refused-way}
 
 -- an answer that tells a number and nothing else
 abbrev pub Refuses : ℕ → View → Type 0
@@ -39,8 +39,8 @@ module _ (keys W H M X Y : List ℕ) (k : Key) where
   abbrev l : Lent
   l = lentOf (length keys) (length W) (length H) (length M) (length X) (length Y) (length Y)
 
-  abbrev way : Way
-  way = wayBy (judged l 0 (k .priority)) (placeFor keys k)
+  abbrev pub wayTo : Way
+  wayTo = wayBy (judged l 0 (k .priority)) (placeFor keys k)
 
   lent-is : lentFor s X Y ≡ lentEnough window l
   lent-is = rw (and-self (leb 32 (length Y)))
@@ -74,7 +74,7 @@ module _ (keys W H M X Y : List ℕ) (k : Key) where
         let begins = channels-found k (placeAt s) k c places 0 i (sym (place-is s k fits) ∙ f) own in
         first-shown ∙ ap shownFirst (begins .is)
 
-  pub turned-looked : (w : Way) (n : ℕ) (given : View) → w ≡ way → w ≡ Way.Refused n → Refuses n given
+  pub turned-looked : (w : Way) (n : ℕ) (given : View) → w ≡ wayTo → w ≡ Way.Refused n → Refuses n given
       → Looked (shownOf (lentFor s X Y) k (tableOf s)) X X Y Y given
   turned-looked w n given by to g =
       rw
@@ -91,7 +91,7 @@ module _ (keys W H M X Y : List ℕ) (k : Key) where
     pub marks-room : 32 ≤ length X
     pub values-room : 32 ≤ length Y
 
-  module _ (w : Way) (i : ℕ) (by : w ≡ way) (to : w ≡ Way.Known i) where
+  module _ (w : Way) (i : ℕ) (by : w ≡ wayTo) (to : w ≡ Way.Known i) where
     at : (judged l 0 (k .priority) ≡ 0) × (placeFor keys k ≡ At i)
     at = known-way (judged l 0 (k .priority)) (placeFor keys k) i (sym by ∙ to)
 

@@ -1,21 +1,34 @@
--- What the number says that is decided before the table is looked at, and what each way of an event says. Assumes nothing.
+-- What the number says that is decided before the table is looked at, and what each way of an event says, by that number and the places that
+-- the lookups find. Assumes nothing.
 use Prim.Native.Nat.{ℕ, zero, suc, _≤_}
 use mathlib.Core.Path.{_≡_, refl, ap, _∙_}
 use mathlib.Core.Logic.{_⊎_, inl, inr, ⊎-elim}
 use mathlib.Core.Bool.{Bool, true, false, cond, _&&_}
 use native.Mathlib.Omega.{arith}
-use mathlib.Core.List.{List}
 use borrow.Author.Tests.{eqb-true, eqb-false, leb-true, eq-eqb, ne-eqb}
 use lib.Dec.{leb, eqb}
 use Rattle.larq.specs.Channel.{window}
-use Rattle.larq.specs.Table.{Key, Lent, lentEnough}
-use Rattle.table.specs.First.{firstPlace, stores}
-use Rattle.table.specs.Key.{firstWord}
+use Rattle.larq.specs.Table.{Lent, lentEnough}
 use Rattle.table.specs.Table.{whole}
-use Rattle.table.specs.Way.{lentOf, judged, placeFor, wayBy, dataWayBy, openingAt}
+use Rattle.table.specs.Way.{lentOf, judged}
 use Rattle.table.specs.declared.lookup.Found.{Found}
 use Rattle.table.specs.declared.way.Way.{Way}
 use Rattle.table.specs.declared.way.DataWay.{DataWay}
+
+-- reminder, tick and close: by that number and that place
+unfoldable pub wayBy : ℕ → Found → Way
+wayBy zero (Found.At i) = Way.Known i
+wayBy zero Found.Nothing = Way.Refused 4
+wayBy (suc n) place = Way.Refused (suc n)
+
+-- data goes the same way, but opens a channel at the first free place where number 4 would be given
+abbrev pub openingAt : Found → DataWay
+openingAt (Found.At i) = DataWay.Free i
+openingAt Found.Nothing = DataWay.Refused 5
+
+unfoldable pub dataWayBy : Way → Found → DataWay
+dataWayBy (Way.Known i) spare = DataWay.Known i
+dataWayBy (Way.Refused n) spare = cond (eqb n 4) (openingAt spare) (DataWay.Refused n)
 
 pub both : (a b : Bool) → a && b ≡ true → (a ≡ true) × (b ≡ true)
 both true b e = (refl, e)
@@ -91,10 +104,6 @@ way-none n f e g = rw (e, g)
 pub way-known : (n : ℕ) (f : Found) (i : ℕ) → n ≡ 0 → f ≡ Found.At i → Way.Known i ≡ wayBy n f
 unfolding wayBy
 way-known n f i e g = rw (e, g)
-
--- what the lookup finds is the place for the key whose words it was given
-pub placed : (keys : List ℕ) (k : Key) (x y : ℕ) (f : Found) → f ≡ firstPlace (stores keys x y) → x ≡ firstWord k → y ≡ k .source → placeFor keys k ≡ f
-placed keys k x y f e first second = rw (← first, ← second, ← e)
 
 -- data opens where number 4 would be given
 pub data-known : (w : Way) (spare : Found) (i : ℕ) → w ≡ Way.Known i → DataWay.Known i ≡ dataWayBy w spare

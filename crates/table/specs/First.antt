@@ -19,6 +19,10 @@ firstFrom test i (suc n) = cond (test i) (At i) (firstFrom test (suc i) n)
 abbrev pub firstPlace : (ℕ → Bool) → Found
 firstPlace test = firstFrom test 0 places
 
+-- the key of place i has this word: its first where w is 0, its source where w is 1
+abbrev pub hasWord : List ℕ → ℕ → ℕ → ℕ → Bool
+hasWord keys w word i = eqb (getD keys (2 * i + w) 0) word
+
 -- place i stores a key of these two words
 abbrev pub stores : List ℕ → ℕ → ℕ → ℕ → Bool
 stores keys first second i = eqb (getD keys (2 * i) 0) first && eqb (getD keys (2 * i + 1) 0) second

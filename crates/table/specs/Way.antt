@@ -1,10 +1,10 @@
 -- Where an event goes: to a place, or nowhere, by a number that no record has a part in.
 -- Document 01, 'Numbers the box may answer with', 1 to 5.
-use Prim.Native.Nat.{ℕ, zero, suc}
+use Prim.Native.Nat.{ℕ}
 use mathlib.Core.List.{List, [], _∷_}
-use mathlib.Core.Bool.{Bool, true, false, cond, _||_}
-use lib.Dec.{leb, eqb}
-use Rattle.wire.specs.Refusals.{Refusal, _else_, first}
+use mathlib.Core.Bool.{Bool, true, false, _||_}
+use lib.Dec.{leb}
+use Rattle.wire.specs.Refusals.{Refusal, _else_, first, answered}
 use Rattle.wire.specs.Answers.{Said, accepted, refused}
 use Rattle.larq.specs.Channel.{window}
 use Rattle.larq.specs.Table.{Key, Lent, lentEnough}
@@ -27,21 +27,6 @@ judged l number priority = first ((lentEnough window l else 1) ∷ ((leb number 
 -- the first place that stores a key
 abbrev pub placeFor : List ℕ → Key → Found
 placeFor keys k = firstPlace (stores keys (firstWord k) (k .source))
-
--- reminder, tick and close: by that number and that place
-unfoldable pub wayBy : ℕ → Found → Way
-wayBy zero (Found.At i) = Way.Known i
-wayBy zero Found.Nothing = Way.Refused 4
-wayBy (suc n) place = Way.Refused (suc n)
-
--- data goes the same way, but opens a channel at the first free place where number 4 would be given
-abbrev pub openingAt : Found → DataWay
-openingAt (Found.At i) = DataWay.Free i
-openingAt Found.Nothing = DataWay.Refused 5
-
-unfoldable pub dataWayBy : Way → Found → DataWay
-dataWayBy (Way.Known i) spare = DataWay.Known i
-dataWayBy (Way.Refused n) spare = cond (eqb n 4) (openingAt spare) (DataWay.Refused n)
 
 -- What each case says: document 01's number, 0 where the event goes to a place, and the values that come with it.
 
@@ -77,3 +62,11 @@ wayRefusals l number priority place =
 abbrev pub dataWayRefusals : Lent → ℕ → ℕ → Found → Found → List Refusal
 dataWayRefusals l number priority place spare =
     (lentEnough window l else 1) ∷ ((leb number 4095 else 2) ∷ ((leb priority 7 else 3) ∷ ((isFound place || isFound spare else 5) ∷ [])))
+
+-- what is to be said of where such an event goes: the first number that refuses it, or the place of its channel
+abbrev pub wayFor : Lent → ℕ → ℕ → Found → Said
+wayFor l number priority place = answered refused (wayRefusals l number priority place) (accepted (placesOf place))
+
+-- and of where data goes
+abbrev pub dataWayFor : Lent → ℕ → ℕ → Found → Found → Said
+dataWayFor l number priority place spare = answered refused (dataWayRefusals l number priority place spare) (accepted (leadsTo place spare))

@@ -23,3 +23,6 @@ pub use way::way_of;
 pub const PLACES: usize = 64;
 
 pub const KEY_WORDS: usize = 2;
+
+// The words of all keys.
+const KEYS_IN_ALL: usize = KEY_WORDS * PLACES;

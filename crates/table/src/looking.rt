@@ -12,6 +12,8 @@ ghost use Rattle.table.specs.Table.{slices, tableOf};
 ghost use Rattle.table.specs.Look.{shownAt, shownOf, lentFor, cellMark, cellValue, Looked};
 use crate::SLOTS;
 use crate::WORDS;
+use crate::key::address;
+use crate::key::first_word;
 use crate::way::Way;
 use crate::way::way_of;
 use ring::Seq;
@@ -144,8 +146,8 @@ pub fn look(
         values.len(),
         values.len(),
         0,
-        destination,
-        source,
+        first_word(destination, priority),
+        address(source),
         priority,
     );
     match way {

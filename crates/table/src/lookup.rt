@@ -1,9 +1,10 @@
 // The place of a key in the table: the first that stores it. A new channel takes the first free place (document 01, 'The channel table').
 ghost use mathlib.Core.Path.{_≡_};
-ghost use Prim.Native.Nat.{_<_};
+ghost use Prim.Native.Nat.{_-_, _<_, _≤_};
 ghost use lib.ListN.{length};
-ghost use Rattle.table.specs.First.{firstPlace, stores, storesNone};
+ghost use Rattle.table.specs.First.{firstFrom, firstPlace, hasWord, stores, storesNone};
 use crate::KEY_WORDS;
+use crate::KEYS_IN_ALL;
 use crate::PLACES;
 
 // What a walk over the places finds.
@@ -12,28 +13,39 @@ pub enum Found {
     Nothing,
 }
 
-// Whether place i stores the key of these two words. The source is looked at first: the channels of one box have mostly one destination.
+// Whether place i stores the key of these two words.
 fn is_stored(keys: &[u64], i: usize, first: u64, second: u64) -> bool
     requires { ⌜ (length (now keys) ≡ 128) × (i < 64) ⌝ }
     ensures { λ r. ⌜ r ≡ stores (now (keys .entry)) first second i ⌝ }
 {
-    (keys[KEY_WORDS * i + 1] == second) & (keys[KEY_WORDS * i] == first)
+    (keys[KEY_WORDS * i] == first) & (keys[KEY_WORDS * i + 1] == second)
 }
 
-// Whether place i stores no key.
-fn is_free(keys: &[u64], i: usize) -> bool
-    requires { ⌜ (length (now keys) ≡ 128) × (i < 64) ⌝ }
-    ensures { λ r. ⌜ r ≡ storesNone (now (keys .entry)) i ⌝ }
+// The first place whose key has this word: the first word where `which` is 0, the source where it is 1. The walk goes by the words, with one
+// test a place: a lookup at a late place takes its time here.
+fn first_with(keys: &[u64], which: usize, word: u64) -> Found
+    requires { ⌜ (length (now keys) ≡ 128) × (which < 2) ⌝ }
+    ensures { λ r. ⌜ r ≡ firstPlace (hasWord (now (keys .entry)) which word) ⌝ }
 {
-    keys[KEY_WORDS * i] == 0
+    let mut j = which;
+    let place = loop {
+        if j >= KEYS_IN_ALL {
+            break Found::Nothing;
+        }
+        if keys[j] == word {
+            break Found::At(j / KEY_WORDS);
+        }
+        j += KEY_WORDS;
+    };
+    place
 }
 
-// The first place that stores the key of these two words.
-pub(crate) fn find(keys: &[u64], first: u64, second: u64) -> Found
-    requires { ⌜ length (now keys) ≡ 128 ⌝ }
-    ensures { λ r. ⌜ r ≡ firstPlace (stores (now (keys .entry)) first second) ⌝ }
+// The first place from `from` on that stores the key of these two words.
+fn find_from(keys: &[u64], from: usize, first: u64, second: u64) -> Found
+    requires { ⌜ (length (now keys) ≡ 128) × (from ≤ 64) ⌝ }
+    ensures { λ r. ⌜ r ≡ firstFrom (stores (now (keys .entry)) first second) from (64 - from) ⌝ }
 {
-    let mut i: usize = 0;
+    let mut i = from;
     let place = loop {
         if i >= PLACES {
             break Found::Nothing;
@@ -46,20 +58,25 @@ pub(crate) fn find(keys: &[u64], first: u64, second: u64) -> Found
     place
 }
 
-// The first free place.
+// The first place that stores the key of these two words. It is mostly the first of that source; where that is another channel of the source,
+// whole keys are compared from there on.
+pub(crate) fn find(keys: &[u64], first: u64, second: u64) -> Found
+    requires { ⌜ length (now keys) ≡ 128 ⌝ }
+    ensures { λ r. ⌜ r ≡ firstPlace (stores (now (keys .entry)) first second) ⌝ }
+{
+    let Found::At(i) = first_with(keys, 1, second) else {
+        return Found::Nothing;
+    };
+    if keys[KEY_WORDS * i] == first {
+        return Found::At(i);
+    }
+    find_from(keys, i + 1, first, second)
+}
+
+// The first free place: the first word of its key is 0.
 pub(crate) fn find_free(keys: &[u64]) -> Found
     requires { ⌜ length (now keys) ≡ 128 ⌝ }
     ensures { λ r. ⌜ r ≡ firstPlace (storesNone (now (keys .entry))) ⌝ }
 {
-    let mut j: usize = 0;
-    let spare = loop {
-        if j >= PLACES {
-            break Found::Nothing;
-        }
-        if is_free(keys, j) {
-            break Found::At(j);
-        }
-        j += 1;
-    };
-    spare
+    first_with(keys, 0, 0)
 }

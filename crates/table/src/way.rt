@@ -6,24 +6,19 @@ ghost use lib.Dec.{leb};
 ghost use mathlib.Core.Bool.{_&&_};
 ghost use Rattle.larq.specs.Channel.{window};
 ghost use Rattle.larq.specs.Table.{lentEnough};
-ghost use Rattle.table.specs.First.{firstPlace, storesNone};
-ghost use Rattle.table.specs.Key.{keyOf};
+ghost use Rattle.table.specs.First.{firstPlace, stores, storesNone};
 ghost use Rattle.table.specs.Table.{whole};
-ghost use Rattle.table.specs.Way.{lentOf, judged, placeFor, wayBy, dataWayBy};
-use crate::KEY_WORDS;
+ghost use Rattle.table.specs.Way.{lentOf, judged, waySays, wayFor, dataWaySays, dataWayFor};
+use crate::KEYS_IN_ALL;
 use crate::PLACES;
 use crate::SLOTS;
 use crate::WORDS;
-use crate::key::address;
-use crate::key::first_word;
 use crate::lookup::Found;
 use crate::lookup::find;
 use crate::lookup::find_free;
 use larq::WINDOW;
 
-// The lengths of a table's slices.
-const KEYS_IN_ALL: usize = KEY_WORDS * PLACES;
-
+// The lengths of a table's other slices.
 const WORDS_IN_ALL: usize = WORDS * PLACES;
 
 const SLOTS_IN_ALL: usize = SLOTS * PLACES;
@@ -83,7 +78,7 @@ fn judge(
     0
 }
 
-// Where reminder, tick and close go. An event that has no number is judged as if it had number 0.
+// Where reminder, tick and close go, by the two words of their key. An event that has no number is judged as if it had number 0.
 pub fn way_of(
     keys: &[u64],
     words: usize,
@@ -93,13 +88,13 @@ pub fn way_of(
     returned: usize,
     nack: usize,
     number: u16,
-    destination: &[u8; 6],
-    source: &[u8; 6],
+    first: u64,
+    second: u64,
     priority: u8,
 ) -> Way
-    ensures { λ r. ⌜ r
-        ≡ wayBy (judged (lentOf (length (now (keys .entry))) words handles marks up returned nack) number priority)
-        (placeFor (now (keys .entry)) (keyOf (now (destination .entry)) (now (source .entry)) priority)) ⌝ }
+    ensures { λ r. ⌜ waySays r
+        ≡ wayFor (lentOf (length (now (keys .entry))) words handles marks up returned nack) number priority
+        (firstPlace (stores (now (keys .entry)) first second)) ⌝ }
 {
     let refusal = judge(
         keys.len(),
@@ -115,7 +110,7 @@ pub fn way_of(
     if refusal != 0 {
         return Way::Refused(refusal);
     }
-    let Found::At(i) = find(keys, first_word(destination, priority), address(source)) else {
+    let Found::At(i) = find(keys, first, second) else {
         return Way::Refused(4);
     };
     Way::Known(i)
@@ -131,15 +126,13 @@ pub fn data_way_of(
     returned: usize,
     nack: usize,
     number: u16,
-    destination: &[u8; 6],
-    source: &[u8; 6],
+    first: u64,
+    second: u64,
     priority: u8,
 ) -> DataWay
-    ensures { λ r. ⌜ r
-        ≡ dataWayBy
-        (wayBy (judged (lentOf (length (now (keys .entry))) words handles marks up returned nack) number priority)
-        (placeFor (now (keys .entry)) (keyOf (now (destination .entry)) (now (source .entry)) priority)))
-        (firstPlace (storesNone (now (keys .entry)))) ⌝ }
+    ensures { λ r. ⌜ dataWaySays r
+        ≡ dataWayFor (lentOf (length (now (keys .entry))) words handles marks up returned nack) number priority
+        (firstPlace (stores (now (keys .entry)) first second)) (firstPlace (storesNone (now (keys .entry)))) ⌝ }
 {
     let way = way_of(
         keys,
@@ -150,8 +143,8 @@ pub fn data_way_of(
         returned,
         nack,
         number,
-        destination,
-        source,
+        first,
+        second,
         priority,
     );
     match way {

@@ -1,12 +1,19 @@
 -- `data` meets its contract: by the way that `data_way_of` gives it refuses, opens a channel at the free place, or lends the parts of the
 -- channel's place to the call on one place.
+use mathlib.Core.Path.{_≡_}
 use native.Mathlib.Omega.{arith}
 use borrow.Author.Needs.{needs}
 use denote.Ref.{now}
 use Rattle.channel.specs.Call.{parts, buffers}
-use Rattle.arrivals.proofs.Events.{Told, Goes, data-goes, data-kept-did, data-turned-did, ready, opening-did}
+use Rattle.arrivals.proofs.Events.{Told, dataWay, by-data-key, Goes, data-goes, data-kept-did, data-turned-did, ready, opening-did}
 use Rattle.arrivals.proofs.data.Statement.{statement}
 use Rattle.arrivals.proofs.data.Tie as tie
+
+first-word-requires : tie.Need-first-word-requires
+first-word-requires c κs = search needs
+
+address-requires : tie.Need-address-requires
+address-requires c κs = search needs
 
 data-way-of-requires : tie.Need-data-way-of-requires
 data-way-of-requires c κs = search needs
@@ -31,8 +38,18 @@ told c =
       time = a .time;
     }
 
-going : (c : tie.After-known-told) → Goes (told (c .before .before .before .before .before .before .before .before .before .before .before .before)) (c .before .way .given .0 .0)
-going c = data-goes (told (c .before .before .before .before .before .before .before .before .before .before .before .before)) (c .before .before .before .before .before .before .before .before .before .before .before .before .args .number) (c .before .before .before .before .before .before .before .before .before .before .before .before .args .handle) _ _ (c .before .before .before .data-way-of .ensures) (c .before .way .given .1)
+abbrev start : tie.After-data-way-of → tie.Start
+start c = c .before .before .before .before .before .before .before .before .before .before .before
+
+by : (c : tie.After-data-way-of) → c .data-way-of .result ≡ dataWay (told (start c)) (start c .args .number)
+by c =
+    by-data-key (told (start c)) (start c .args .number) _ _ (c .before .before .before .first-word .ensures) (c .before .before .address .ensures .0) _
+    (c .data-way-of .ensures)
+
+going : (c : tie.After-known-told) → Goes (told (start (c .before .before .before))) (c .before .way .given .0 .0)
+going c =
+    let at = c .before .before .before in
+    data-goes (told (start at)) (start at .args .number) (start at .args .handle) _ _ (by at) (c .before .way .given .1)
 
 mul-from : tie.Need-mul-from
 mul-from c = omega (arith, going c)
@@ -88,16 +105,10 @@ data-requires c κs = search needs
 enum-known-way-2 : tie.Need-enum-known-way-2
 enum-known-way-2 c = search needs
 
-first-word-requires : tie.Need-first-word-requires
-first-word-requires c κs = search needs
-
-address-requires : tie.Need-address-requires
-address-requires c κs = search needs
-
 open-at-requires : tie.Need-open-at-requires
 open-at-requires c κs =
-    let start = c .before .before .before .before .before .before .before .before .before .before .before .before .before .before .before .before .before in
-    ready (told start) (start .args .number) (start .args .handle) _ _ (c .before .before .before .before .before .before .before .before .data-way-of .ensures) (c .before .before .before .before .before .before .way2 .given .1)
+    let at = c .before .before .before .before .before .before in
+    ready (told (start at)) (start at .args .number) (start at .args .handle) _ _ (by at) (c .before .before .before .before .way2 .given .1)
 
 enum-known-way-3 : tie.Need-enum-known-way-3
 enum-known-way-3 c = search needs
@@ -128,12 +139,11 @@ same-length-7 c = search needs
 
 returns : tie.Need-returns
 returns c =
-    let at = c .before .before .before .before .before .before .before .before .before .before .before .before .before .before .before .before .before .before .before in
-    let start = at .before .before .before .before .before .before .before .before .before .before .before .before in
+    let told-at = c .before .before .before .before .before .before .before .before .before .before .before .before .before .before .before .before .before .before .before in
+    let at = told-at .before .before .before in
     let call = c .before .before .before .before .before .before .before .before .before .before .before .before .«data» in
-    data-kept-did (told start) (start .args .number) (start .args .handle) _ _ (parts _ _ _) (buffers _ _ _) _
-    (at .before .before .before .data-way-of .ensures) (at .before .way .given .1)
-    (record { words = call .kept .0; handles = call .kept .1 .0; marks = call .kept .1 .1 .0 }) (call .ensures)
+    data-kept-did (told (start at)) (start at .args .number) (start at .args .handle) _ _ (parts _ _ _) (buffers _ _ _) _ (by at)
+    (told-at .before .way .given .1) (record { words = call .kept .0; handles = call .kept .1 .0; marks = call .kept .1 .1 .0 }) (call .ensures)
 
 same-length-8 : tie.Need-same-length-8
 same-length-8 c = search needs
@@ -146,23 +156,25 @@ same-length-10 c = search needs
 
 returns-2 : tie.Need-returns-2
 returns-2 c =
-    let start = c .before .before .before .before .before .before .before .before .before .before .before .before .before .before .before .before .before .before .before .before .before .before .before .before in
-    opening-did (told start) (start .args .number) (start .args .handle) _ _ (c .before .before .before .before .before .before .before .before .before .before .before .before .before .before .before .data-way-of .ensures) (c .before .before .before .before .before .before .before .before .before .before .before .before .before .way2 .given .1) _ _ _ _ _ _
-    (c .before .before .before .before .before .before .before .before .first-word .ensures) (c .before .before .before .before .before .before .before .address .ensures .0) (c .before .before .before .before .before .before .open-at .ensures)
+    let at = c .before .before .before .before .before .before .before .before .before .before .before .before .before in
+    opening-did (told (start at)) (start at .args .number) (start at .args .handle) _ _ (by at) (c .before .before .before .before .before .before .before .before .before .before .before .way2 .given .1) _ _ _ _ _ _
+    (at .before .before .before .first-word .ensures) (at .before .before .address .ensures .0) (c .before .before .before .before .before .before .open-at .ensures)
 
 same-length-11 : tie.Need-same-length-11
 same-length-11 c = search needs
 
 returns-3 : tie.Need-returns-3
 returns-3 c =
-    let start = c .before .before .before .before .before .before .before .before .before .before .before .before .before in
-    data-turned-did (told start) (start .args .number) (start .args .handle) _ _ _ (c .before .before .before .before .data-way-of .ensures) (c .before .before .way3 .given .1)
+    let at = c .before .before .before .before in
+    data-turned-did (told (start at)) (start at .args .number) (start at .args .handle) _ _ _ (by at) (c .before .before .way3 .given .1)
     (c .refused .ensures)
 
 pub data-spec : {M : Type 1} → statement M
 data-spec =
     tie.close
     (tie.spec
+    first-word-requires
+    address-requires
     data-way-of-requires
     enum-known-way
     mul-from
@@ -183,8 +195,6 @@ data-spec =
     part-data-end-3
     data-requires
     enum-known-way-2
-    first-word-requires
-    address-requires
     open-at-requires
     enum-known-way-3
     refused-requires

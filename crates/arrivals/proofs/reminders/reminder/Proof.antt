@@ -1,13 +1,19 @@
 -- `reminder` meets its contract: by the way that `way_of` gives it refuses, or lends the parts of the channel's place to the call on one place.
-use mathlib.Core.Path.{refl}
+use mathlib.Core.Path.{_≡_, refl}
 use native.Mathlib.Omega.{arith}
 use borrow.Author.Needs.{needs}
 use denote.Ref.{now}
 use Rattle.larq.specs.Events.{reminder}
 use Rattle.channel.specs.Call.{parts, buffers}
-use Rattle.arrivals.proofs.Events.{Told, Goes, goes, kept-did, turned-did}
+use Rattle.arrivals.proofs.Events.{Told, way, by-key, Goes, goes, kept-did, turned-did}
 use Rattle.arrivals.proofs.reminders.reminder.Statement.{statement}
 use Rattle.arrivals.proofs.reminders.reminder.Tie as tie
+
+first-word-requires : tie.Need-first-word-requires
+first-word-requires c κs = search needs
+
+address-requires : tie.Need-address-requires
+address-requires c κs = search needs
 
 way-of-requires : tie.Need-way-of-requires
 way-of-requires c κs = search needs
@@ -32,8 +38,17 @@ told c =
       time = a .time;
     }
 
-going : (c : tie.After-known-told) → Goes (told (c .before .before .before .before .before .before .before .before .before .before .before)) (c .before .way .given .0 .0)
-going c = goes (told (c .before .before .before .before .before .before .before .before .before .before .before)) (reminder (c .before .before .before .before .before .before .before .before .before .before .before .args .number)) (c .before .before .before .before .before .before .before .before .before .before .before .args .number) refl _ _ (c .before .before .before .way-of .ensures) (c .before .way .given .1)
+abbrev start : tie.After-way-of → tie.Start
+start c = c .before .before .before .before .before .before .before .before .before .before
+
+by : (c : tie.After-way-of) → c .way-of .result ≡ way (told (start c)) (start c .args .number)
+by c =
+    by-key (told (start c)) (start c .args .number) _ _ (c .before .before .first-word .ensures) (c .before .address .ensures .0) _ (c .way-of .ensures)
+
+going : (c : tie.After-known-told) → Goes (told (start (c .before .before .before))) (c .before .way .given .0 .0)
+going c =
+    let at = c .before .before .before in
+    goes (told (start at)) (reminder (start at .args .number)) (start at .args .number) refl _ _ (by at) (c .before .way .given .1)
 
 mul-from : tie.Need-mul-from
 mul-from c = omega (arith, going c)
@@ -112,23 +127,25 @@ same-length-6 c = search needs
 
 returns : tie.Need-returns
 returns c =
-    let at = c .before .before .before .before .before .before .before .before .before .before .before .before .before .before .before .before .before .before .before in
-    let start = at .before .before .before .before .before .before .before .before .before .before .before in
+    let told-at = c .before .before .before .before .before .before .before .before .before .before .before .before .before .before .before .before .before .before .before in
+    let at = told-at .before .before .before in
+    let number = start at .args .number in
     let call = c .before .before .before .before .before .before .before .before .before .before .before .before .reminder in
-    kept-did (told start) (reminder (start .args .number)) (start .args .number) refl refl _ _ (parts _ _ _) (buffers _ _ _) _
-    (at .before .before .before .way-of .ensures) (at .before .way .given .1)
+    kept-did (told (start at)) (reminder number) number refl refl _ _ (parts _ _ _) (buffers _ _ _) _ (by at) (told-at .before .way .given .1)
     (record { words = call .kept .0; handles = call .kept .1 .0; marks = call .kept .1 .1 .0 }) (call .ensures)
 
 returns-2 : tie.Need-returns-2
 returns-2 c =
-    let start = c .before .before .before .before .before .before .before .before .before .before .before .before in
-    turned-did (told start) (reminder (start .args .number)) (start .args .number) refl refl _ _ _ (c .before .before .before .before .way-of .ensures) (c .before .before .way2 .given .1)
-    (c .refused .ensures)
+    let at = c .before .before .before .before in
+    let number = start at .args .number in
+    turned-did (told (start at)) (reminder number) number refl refl _ _ _ (by at) (c .before .before .way2 .given .1) (c .refused .ensures)
 
 pub reminder-spec : {M : Type 1} → statement M
 reminder-spec =
     tie.close
     (tie.spec
+    first-word-requires
+    address-requires
     way-of-requires
     enum-known-way
     mul-from

@@ -1,42 +1,76 @@
--- `find` meets its contract: at each turn the places from i on hold the first that stores the key, if one does.
-use Prim.Native.Nat.{_≤_, _-_}
-use mathlib.Core.Path.{_≡_, _∙_, sym, refl}
+-- `find` meets its contract: no place before the first of the source stores the key.
+use Prim.Native.Nat.{_<_}
+use mathlib.Core.Path.{_≡_, sym, _∙_}
+use native.Mathlib.Omega.{arith}
 use borrow.Author.Needs.{needs}
-use Rattle.table.specs.First.{firstPlace, firstFrom, stores}
-use Rattle.table.proofs.First.{here, past, none}
+use denote.Ref.{now}
+use Rattle.table.specs.First.{firstPlace, hasWord}
+use Rattle.table.specs.declared.lookup.Found.the-variants.{At}
+use Rattle.table.proofs.Walking.{unknown-source, inside, its-first, a-later-one}
 use Rattle.table.proofs.lookup.find.Statement.{statement}
 use Rattle.table.proofs.lookup.find.Tie as tie
 
-abbrev Inv-loop : tie.InvT-loop
-Inv-loop keys first second i₀ i = (i ≤ 64) × (firstPlace (stores keys first second) ≡ firstFrom (stores keys first second) i (64 - i))
+first-with-requires : tie.Need-first-with-requires
+first-with-requires c κs = search needs
 
-abbrev μ-loop : tie.MeasureT-loop
-μ-loop keys first second i₀ i = 64 - i
+enum-known-i : tie.Need-enum-known-i
+enum-known-i c = search needs
 
-loop-holds : tie.Need-loop-holds Inv-loop μ-loop
-loop-holds c = (search needs, refl)
+enum-told : tie.Need-enum-told
+enum-told c = search needs
 
-is-stored-requires : tie.Need-is-stored-requires Inv-loop μ-loop
-is-stored-requires c κs = search needs
+returns : tie.Need-returns
+returns c =
+    let a = c .before .before .before .before .args in
+    unknown-source (now (a .keys)) (a .first) (a .second) (sym (c .before .before .first-with .ensures) ∙ c .enum-told .given .1)
 
-add-i : tie.Need-add-i Inv-loop μ-loop
-add-i c = search needs
+there : (c : tie.After-known-told) → let a = c .before .before .before .before .before .args in
+    firstPlace (hasWord (now (a .keys)) 1 (a .second)) ≡ At (c .before .i .given .0 .0)
+there c = sym (c .before .before .before .first-with .ensures) ∙ c .before .i .given .1
 
-loop-less : tie.Need-loop-less Inv-loop μ-loop
-loop-less c = search needs
+low : (c : tie.After-known-told) → c .before .i .given .0 .0 < 64
+low c =
+    let a = c .before .before .before .before .before .args in
+    inside (now (a .keys)) (a .first) (a .second) (c .before .i .given .0 .0) (there c)
 
-loop-again : tie.Need-loop-again Inv-loop μ-loop
-loop-again c = (
-  search needs,
-  c .before .before .before .loop .inv .1 ∙ past _ 64 _ (c .before .before .if1 .left) (sym (c .before .is-stored .ensures) ∙ c .if2 .left),
-)
+mul-if1 : tie.Need-mul-if1
+mul-if1 c = omega (arith, low c)
 
-returns : tie.Need-returns Inv-loop μ-loop
-returns c = sym (c .before .loop .inv .1 ∙ none _ 64 _ (c .if1 .taken))
+mul-if1-2 : tie.Need-mul-if1-2
+mul-if1-2 c = omega (arith, low c)
 
-returns-2 : tie.Need-returns-2 Inv-loop μ-loop
+shared-slice-read-if1 : tie.Need-shared-slice-read-if1
+shared-slice-read-if1 c = omega (arith, low (c .before))
+
+returns-2 : tie.Need-returns-2
 returns-2 c =
-    sym (c .before .before .before .loop .inv .1 ∙ here _ 64 _ (c .before .before .if1 .left) (sym (c .before .is-stored .ensures) ∙ c .if2 .taken))
+    let a = c .before .before .before .before .before .before .before .args in
+    its-first (now (a .keys)) (a .first) (a .second) _ (there (c .before .before)) (c .if1 .taken)
+
+add-find-from : tie.Need-add-find-from
+add-find-from c = omega (arith, low (c .before .before))
+
+find-from-requires : tie.Need-find-from-requires
+find-from-requires c κs =
+    (c .before .before .before .before .before .before .before .pre, omega (arith, low (c .before .before)))
+
+returns-3 : tie.Need-returns-3
+returns-3 c =
+    let a = c .before .before .before .before .before .before .before .before .args in
+    c .find-from .ensures ∙ a-later-one (now (a .keys)) (a .first) (a .second) _ (there (c .before .before .before)) (c .before .if1 .left)
 
 pub find-spec : {M : Type 1} → statement M
-find-spec = tie.close (tie.spec Inv-loop μ-loop loop-holds is-stored-requires add-i loop-less loop-again returns returns-2)
+find-spec =
+    tie.close
+    (tie.spec
+    first-with-requires
+    enum-known-i
+    enum-told
+    returns
+    mul-if1
+    mul-if1-2
+    shared-slice-read-if1
+    returns-2
+    add-find-from
+    find-from-requires
+    returns-3)
