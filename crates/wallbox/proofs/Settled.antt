@@ -1,5 +1,5 @@
 -- Any two outcomes that a contract of this crate allows are equal. The structs of a rate request stand for what the library answers, and no two of them for the
--- same; an emptied table and a look are told field by field. The four events are settled by `unique` of receiver, and the other contracts are equations.
+-- same. The four events are settled by `unique` of receiver, an emptied table and a look by table's lemmas, and the other contracts are equations.
 -- Assumes nothing.
 use Prim.Native.Nat.{ℕ}
 use mathlib.Core.Path.{_≡_, refl, sym, ap, _∙_}
@@ -11,10 +11,6 @@ use Rattle.rate.specs.declared.Written as inner-written
 use Rattle.rate.specs.Reading.{readOf}
 use Rattle.rate.specs.Writing.{Wrote}
 use Rattle.rate.proofs.Settled.{write-settled}
-use Rattle.table.specs.Emptied.{Emptied}
-use Rattle.table.specs.Look.{Shown, Looked}
-use Rattle.table.specs.Table.{Slices}
-use Rattle.table.specs.declared.looking.View.{View}
 use Rattle.wallbox.specs.declared.requests.Address.{Address}
 use Rattle.wallbox.specs.declared.requests.Request.{Request}
 use Rattle.wallbox.specs.declared.requests.Reading.{Reading}
@@ -66,27 +62,3 @@ pub writing-settled : (q : Request) (a before : List ℕ) {after after′ : List
 writing-settled q a before r t v w =
     let both = write-settled (requestOf q) a before v w in
     (sym (written-back r) ∙ ap writtenFor (both .0) ∙ written-back t, both .1)
-
-pub empty-settled : (before : Slices) {after after′ : Slices} {r t : ℕ} → Emptied before after r → Emptied before after′ t → (r ≡ t) × (after ≡ after′)
-empty-settled before v w = (v .number ∙ sym (w .number), v .table ∙ sym (w .table))
-
--- two answers to one look, with the buffers for the cells
-pub record SameLook (r t : View) (waits waits′ values values′ : List ℕ) : Type 0 where
-  pub view : r ≡ t
-  pub marks : waits ≡ waits′
-  pub cells : values ≡ values′
-
-pub look-settled : (shown : Shown) (waited valued : List ℕ) {waits waits′ values values′ : List ℕ} (r t : View) → Looked shown waited waits valued values r
-    → Looked shown waited waits′ valued values′ t → SameLook r t waits waits′ values values′
-look-settled shown waited valued r t v w =
-    record {
-      view = λ i. record {
-        number = (v .number ∙ sym (w .number)) i;
-        current = (v .current ∙ sym (w .current)) i;
-        oldest = (v .oldest ∙ sym (w .oldest)) i;
-        latest = (v .latest ∙ sym (w .latest)) i;
-        span = (v .span ∙ sym (w .span)) i;
-      };
-      marks = v .marks ∙ sym (w .marks);
-      cells = v .cells ∙ sym (w .cells);
-    }
