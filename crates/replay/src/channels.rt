@@ -16,33 +16,65 @@ pub(crate) type Handles = [u32; 2048];
 
 pub(crate) type Marks = [u8; 2048];
 
+// An answer with its three lists, and the kind of the event that it is to (docs/LAYOUT.md, 'Sessions'), 0 where it is to none of the four.
+// The events give this and tell nothing: a function that has both the table and the line in hand is dear to check.
+struct Told {
+    kind: u8,
+    answer: Answer,
+    up: [u32; 32],
+    returned: [u32; 32],
+    nack: [u16; 32],
+}
+
 pub(crate) fn answer(
     keys: &mut Keys,
     words: &mut Words,
     handles: &mut Handles,
     marks: &mut Marks,
-    index: u64,
+    line: &mut Line,
+    at: usize,
     event: Body,
-) {
+) -> usize {
+    if let Body::Look(key) = event {
+        return look(keys, words, handles, marks, line, at, key);
+    }
+    tell(line, at, acted(keys, words, handles, marks, event))
+}
+
+fn acted(
+    keys: &mut Keys,
+    words: &mut Words,
+    handles: &mut Handles,
+    marks: &mut Marks,
+    event: Body,
+) -> Told {
     match event {
-        Body::Data(key, time, number, handle) => data(
-            keys,
-            words,
-            handles,
-            marks,
-            index,
-            key,
-            time,
-            number,
-            handle,
-        ),
-        Body::Reminder(key, time, number) => {
-            reminder(keys, words, handles, marks, index, key, time, number)
+        Body::Data(key, time, number, handle) => {
+            data(keys, words, handles, marks, key, time, number, handle)
         }
-        Body::Tick(key, time) => tick(keys, words, handles, marks, index, key, time),
-        Body::Close(key, time) => close(keys, words, handles, marks, index, key, time),
-        Body::Look(key) => look(keys, words, handles, marks, index, key),
-        _ => {}
+        Body::Reminder(key, time, number) => {
+            reminder(keys, words, handles, marks, key, time, number)
+        }
+        Body::Tick(key, time) => tick(keys, words, handles, marks, key, time),
+        Body::Close(key, time) => close(keys, words, handles, marks, key, time),
+        _ => nothing(),
+    }
+}
+
+fn nothing() -> Told {
+    let answer = Answer {
+        number: 0,
+        up: 0,
+        returned: 0,
+        nack: 0,
+        lost: 0,
+    };
+    Told {
+        kind: 0,
+        answer,
+        up: [0; 32],
+        returned: [0; 32],
+        nack: [0; 32],
     }
 }
 
@@ -51,12 +83,11 @@ fn data(
     words: &mut Words,
     handles: &mut Handles,
     marks: &mut Marks,
-    index: u64,
     key: Key,
     time: u64,
     number: u16,
     handle: u32,
-) {
+) -> Told {
     let mut up = [0u32; 32];
     let mut returned = [0u32; 32];
     let mut nack = [0u16; 32];
@@ -77,7 +108,13 @@ fn data(
         number,
         handle,
     );
-    tell(index, b" data ", answer, &up, &returned, &nack);
+    Told {
+        kind: 1,
+        answer,
+        up,
+        returned,
+        nack,
+    }
 }
 
 fn reminder(
@@ -85,11 +122,10 @@ fn reminder(
     words: &mut Words,
     handles: &mut Handles,
     marks: &mut Marks,
-    index: u64,
     key: Key,
     time: u64,
     number: u16,
-) {
+) -> Told {
     let mut up = [0u32; 32];
     let mut returned = [0u32; 32];
     let mut nack = [0u16; 32];
@@ -109,7 +145,13 @@ fn reminder(
         time,
         number,
     );
-    tell(index, b" reminder ", answer, &up, &returned, &nack);
+    Told {
+        kind: 2,
+        answer,
+        up,
+        returned,
+        nack,
+    }
 }
 
 fn tick(
@@ -117,10 +159,9 @@ fn tick(
     words: &mut Words,
     handles: &mut Handles,
     marks: &mut Marks,
-    index: u64,
     key: Key,
     time: u64,
-) {
+) -> Told {
     let mut up = [0u32; 32];
     let mut returned = [0u32; 32];
     let mut nack = [0u16; 32];
@@ -139,7 +180,13 @@ fn tick(
         key.priority,
         time,
     );
-    tell(index, b" tick ", answer, &up, &returned, &nack);
+    Told {
+        kind: 3,
+        answer,
+        up,
+        returned,
+        nack,
+    }
 }
 
 fn close(
@@ -147,10 +194,9 @@ fn close(
     words: &mut Words,
     handles: &mut Handles,
     marks: &mut Marks,
-    index: u64,
     key: Key,
     time: u64,
-) {
+) -> Told {
     let mut up = [0u32; 32];
     let mut returned = [0u32; 32];
     let mut nack = [0u16; 32];
@@ -169,29 +215,51 @@ fn close(
         key.priority,
         time,
     );
-    tell(index, b" close ", answer, &up, &returned, &nack);
+    Told {
+        kind: 4,
+        answer,
+        up,
+        returned,
+        nack,
+    }
 }
 
-// Writes the line of an answer.
-fn tell(
-    index: u64,
-    event: &[u8],
-    answer: Answer,
-    up: &[u32; 32],
-    returned: &[u32; 32],
-    nack: &[u16; 32],
-) {
-    let mut line = text::blank();
-    let mut at = text::begin(&mut line, index, event, answer.number);
-    at = text::handles(&mut line, at, b" up=", up, answer.up);
-    at = text::handles(&mut line, at, b" returned=", returned, answer.returned);
-    at = text::numbers(&mut line, at, b" nack=", nack, answer.nack);
-    at = text::field(&mut line, at, b" lost=", answer.lost as u64);
-    text::send(&mut line, at);
+// The line of an answer.
+fn tell(line: &mut Line, start: usize, told: Told) -> usize {
+    if told.kind == 0 {
+        return start;
+    }
+    let answer = told.answer;
+    let up = told.up;
+    let returned = told.returned;
+    let nack = told.nack;
+    let mut at = named(line, start, told.kind);
+    at = text::decimal(line, at, answer.number as u64);
+    at = text::handles(line, at, b" up=", &up, answer.up);
+    at = text::handles(line, at, b" returned=", &returned, answer.returned);
+    at = text::numbers(line, at, b" nack=", &nack, answer.nack);
+    text::field(line, at, b" lost=", answer.lost as u64)
+}
+
+fn named(line: &mut Line, at: usize, kind: u8) -> usize {
+    match kind {
+        1 => text::word(line, at, b" data "),
+        2 => text::word(line, at, b" reminder "),
+        3 => text::word(line, at, b" tick "),
+        _ => text::word(line, at, b" close "),
+    }
 }
 
 // A look at a channel's record changes nothing.
-fn look(keys: &Keys, words: &Words, handles: &Handles, marks: &Marks, index: u64, key: Key) {
+fn look(
+    keys: &Keys,
+    words: &Words,
+    handles: &Handles,
+    marks: &Marks,
+    line: &mut Line,
+    at: usize,
+    key: Key,
+) -> usize {
     let mut waits = [0u8; 32];
     let mut values = [0u64; 32];
     let to = session::octets(key.destination);
@@ -207,19 +275,21 @@ fn look(keys: &Keys, words: &Words, handles: &Handles, marks: &Marks, index: u64
         &mut waits,
         &mut values,
     );
-    show(index, view, &waits, &values);
+    show(line, at, view, &waits, &values)
 }
 
-// Writes the line of a look.
-fn show(index: u64, view: View, waits: &[u8; 32], values: &[u64; 32]) {
-    let mut line = text::blank();
-    let mut at = text::begin(&mut line, index, b" look ", view.number);
-    at = text::field(&mut line, at, b" current=", view.current as u64);
-    at = text::field(&mut line, at, b" oldest=", view.oldest as u64);
-    at = text::field(&mut line, at, b" latest=", view.latest);
-    at = text::field(&mut line, at, b" span=", view.span as u64);
-    at = cells(&mut line, at, view.oldest, view.span, waits, values);
-    text::send(&mut line, at);
+// The line of a look.
+fn show(line: &mut Line, start: usize, view: View, waits: &[u8; 32], values: &[u64; 32]) -> usize {
+    let numbers = [
+        view.number as u64,
+        view.current as u64,
+        view.oldest as u64,
+        view.latest,
+        view.span as u64,
+    ];
+    let names = b" look # current=# oldest=# latest=# span=# cells=";
+    let at = text::fields(line, start, names, &numbers);
+    cells(line, at, view.oldest, view.span, waits, values)
 }
 
 // A cell for each number from the oldest on, with commas between; `-` where there is none.
@@ -231,10 +301,10 @@ fn cells(
     waits: &[u8; 32],
     values: &[u64; 32],
 ) -> usize {
-    let mut at = text::word(line, start, b" cells=");
     if span == 0 {
-        return text::word(line, at, b"-");
+        return text::word(line, start, b"-");
     }
+    let mut at = start;
     let mut i = 0;
     let mut number = Seq(oldest);
     while i < 32 && i < span {

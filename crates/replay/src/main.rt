@@ -68,17 +68,30 @@ fn taken(
             index,
         ),
         Entry::Cut => ended(index, b" cut"),
+        Entry::Failed => ended(index, b" failed"),
         Entry::End => Turn::Over,
     }
 }
 
-// The run ends with a line that says why.
+// The run ends before the session does. The line says why; and since a program of the kit has no exit status to give, it is told on standard error
+// too, where a run that answers all of its session says nothing.
 fn ended(index: u64, why: &[u8]) -> Turn {
     let mut line = text::blank();
-    let mut at = text::decimal(&mut line, 0, index);
-    at = text::word(&mut line, at, why);
-    text::send(&mut line, at);
+    let at = text::decimal(&mut line, 0, index);
+    let end = text::word(&mut line, at, why);
+    if sent(&mut line, end) {
+        text::say(b"replay: the session was not answered to its end; the last line says why\n");
+    }
     Turn::Over
+}
+
+// Sends a line, or says that it could not.
+fn sent(line: &mut text::Line, end: usize) -> bool {
+    if text::send(line, end) {
+        return true;
+    }
+    text::say(b"replay: the answers could not be written\n");
+    false
 }
 
 // Each part answers its own events, and passes the others over.
@@ -95,7 +108,15 @@ fn answered(
     if let Body::Unreadable = event {
         return ended(index, b" unreadable");
     }
-    channels::answer(keys, words, handles, marks, index, event);
-    rates::answer(index, event, session::rest(body));
-    Turn::Next(stations::answer(index, event, station))
+    let mut line = text::blank();
+    let mut at = text::decimal(&mut line, 0, index);
+    at = channels::answer(keys, words, handles, marks, &mut line, at, event);
+    at = rates::answer(&mut line, at, event, session::rest(body));
+    let step = stations::answer(&mut line, at, event, station);
+    let after = step.station;
+    if sent(&mut line, step.end) {
+        Turn::Next(after)
+    } else {
+        Turn::Over
+    }
 }

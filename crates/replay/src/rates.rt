@@ -8,29 +8,24 @@ use session::Body;
 ghost use Prim.Native.Nat.{_≤_};
 
 // `rest` are the octets behind the fields of the event's body.
-pub(crate) fn answer(index: u64, event: Body, rest: &[u8]) {
+pub(crate) fn answer(line: &mut Line, at: usize, event: Body, rest: &[u8]) -> usize {
     match event {
-        Body::Read => read(index, rest),
-        Body::Write(request, room) => write(index, request, room, rest),
-        _ => {}
+        Body::Read => read(line, at, rest),
+        Body::Write(request, room) => write(line, at, request, room, rest),
+        _ => at,
     }
 }
 
-// Reads a frame, and writes the line of the answer. The addresses are the frame's own octets.
-fn read(index: u64, frame: &[u8]) {
+// Reads a frame. The addresses are the frame's own octets.
+fn read(line: &mut Line, start: usize, frame: &[u8]) -> usize {
     let reading = rate::read(frame);
     let request = reading.request;
-    let start = reading.start;
+    let first = reading.start;
     let extent = reading.extent;
-    let mut line = text::blank();
-    let mut at = text::begin(&mut line, index, b" read ", reading.number);
-    at = addressed(&mut line, at, request);
-    at = text::field(&mut line, at, b" opcode=", request.opcode as u64);
-    at = text::field(&mut line, at, b" bands=", request.bands as u64);
-    at = text::field(&mut line, at, b" addresses=", reading.addresses as u64);
-    at = banded(&mut line, at, request);
-    at = text::octets(&mut line, at, b" octets=", wire::part(frame, start, extent));
-    text::send(&mut line, at);
+    let mut at = text::field(line, start, b" read ", reading.number as u64);
+    at = addressed(line, at, request);
+    at = banded(line, at, request, reading.addresses as u64);
+    text::octets(line, at, b" octets=", wire::part(frame, first, extent))
 }
 
 fn addressed(line: &mut Line, start: usize, request: Request) -> usize {
@@ -40,13 +35,20 @@ fn addressed(line: &mut Line, start: usize, request: Request) -> usize {
     text::octets(line, at, b" source=", &source)
 }
 
-fn banded(line: &mut Line, start: usize, request: Request) -> usize {
-    let mut at = text::field(line, start, b" pe1=", request.pe1 as u64);
-    at = text::field(line, at, b" rank1=", request.rank1 as u64);
-    at = text::field(line, at, b" pe2=", request.pe2 as u64);
-    at = text::field(line, at, b" rank2=", request.rank2 as u64);
-    at = text::field(line, at, b" chosen=", chosen(request));
-    text::field(line, at, b" rate=", rate(request))
+fn banded(line: &mut Line, start: usize, request: Request, addresses: u64) -> usize {
+    let numbers = [
+        request.opcode as u64,
+        request.bands as u64,
+        addresses,
+        request.pe1 as u64,
+        request.rank1 as u64,
+        request.pe2 as u64,
+        request.rank2 as u64,
+        chosen(request),
+        rate(request),
+    ];
+    let names = b" opcode=# bands=# addresses=# pe1=# rank1=# pe2=# rank2=# chosen=# rate=#";
+    text::fields(line, start, names, &numbers)
 }
 
 // The chosen band's number, or 0 where a refused frame has none.
@@ -67,20 +69,30 @@ fn rate(request: Request) -> u64 {
 }
 
 // Writes a request into an output of this room whose octets are all 0xff before.
-fn write(index: u64, request: session::Request, room: u16, addresses: &[u8]) {
+fn write(
+    line: &mut Line,
+    at: usize,
+    request: session::Request,
+    room: u16,
+    addresses: &[u8],
+) -> usize {
     let mut output = [0xffu8; 1600];
     let end = within_output(room);
-    write_into(&mut output[0..end], index, wanted(request), addresses);
+    write_into(&mut output[0..end], line, at, wanted(request), addresses)
 }
 
-// Writes a request, and then the line of the answer with the whole output.
-fn write_into(output: &mut [u8], index: u64, request: Request, addresses: &[u8]) {
+// Writes a request, and tells the answer with the whole output.
+fn write_into(
+    output: &mut [u8],
+    line: &mut Line,
+    start: usize,
+    request: Request,
+    addresses: &[u8],
+) -> usize {
     let written = rate::write(output, request, addresses);
-    let mut line = text::blank();
-    let mut at = text::begin(&mut line, index, b" write ", written.number);
-    at = text::field(&mut line, at, b" count=", written.count as u64);
-    at = text::octets(&mut line, at, b" output=", output);
-    text::send(&mut line, at);
+    let numbers = [written.number as u64, written.count as u64];
+    let at = text::fields(line, start, b" write # count=#", &numbers);
+    text::octets(line, at, b" output=", output)
 }
 
 // The output has 1,600 octets at most; the longest frame has 270.

@@ -7,26 +7,31 @@ use capability::Station;
 use capability::Timer;
 use session::Body;
 
-// Gives the station as it then is.
-pub(crate) fn answer(index: u64, event: Body, station: Station) -> Station {
+// The station as it then is, and where its part of the line ends.
+pub(crate) struct Step {
+    pub station: Station,
+    pub end: usize,
+}
+
+pub(crate) fn answer(line: &mut Line, at: usize, event: Body, station: Station) -> Step {
     match event {
-        Body::Fresh(default) => fresh(index, default),
-        Body::Use(flags) => told(index, b" use ", station.use_flags(flags)),
-        Body::Period => told(index, b" period ", station.end_period()),
+        Body::Fresh(default) => fresh(line, at, default),
+        Body::Use(flags) => told(line, at, b" use ", station.use_flags(flags)),
+        Body::Period => told(line, at, b" period ", station.end_period()),
         Body::Received(opcode, oldest, current, heard) => {
             let frame = Frame {
                 oldest,
                 current,
                 heard,
             };
-            told(index, b" received ", station.receive(opcode, frame))
+            told(line, at, b" received ", station.receive(opcode, frame))
         }
-        _ => station,
+        _ => Step { station, end: at },
     }
 }
 
 // A station that has just begun orders nothing.
-fn fresh(index: u64, default: u32) -> Station {
+fn fresh(line: &mut Line, at: usize, default: u32) -> Step {
     let station = Station::fresh(default);
     let answer = Answer {
         number: Station::ACCEPTED,
@@ -36,23 +41,25 @@ fn fresh(index: u64, default: u32) -> Station {
         reported: 0,
         timer: Timer::Kept,
     };
-    told(index, b" fresh ", answer)
+    told(line, at, b" fresh ", answer)
 }
 
-// Writes the line of an answer, and gives the station as it then is.
-fn told(index: u64, event: &[u8], answer: Answer) -> Station {
+fn told(line: &mut Line, start: usize, event: &[u8], answer: Answer) -> Step {
     let timer = answer.timer;
     let frame = answer.frame;
-    let mut line = text::blank();
-    let mut at = text::begin(&mut line, index, event, answer.number);
-    at = sent(&mut line, at, answer.sends);
-    at = ordered(&mut line, at, timer);
-    at = set(&mut line, at, b" really_new=", answer.reported);
-    at = set(&mut line, at, b" oldest_tx=", frame.oldest);
-    at = set(&mut line, at, b" current_tx=", frame.current);
-    at = set(&mut line, at, b" current_rx=", frame.heard);
-    text::send(&mut line, at);
-    answer.station
+    let station = answer.station;
+    let mut at = text::field(line, start, event, answer.number as u64);
+    at = sent(line, at, answer.sends);
+    at = ordered(line, at, timer);
+    let end = sets(line, at, answer.reported, frame);
+    Step { station, end }
+}
+
+fn sets(line: &mut Line, start: usize, reported: u32, frame: Frame) -> usize {
+    let mut at = set(line, start, b" really_new=", reported);
+    at = set(line, at, b" oldest_tx=", frame.oldest);
+    at = set(line, at, b" current_tx=", frame.current);
+    set(line, at, b" current_rx=", frame.heard)
 }
 
 fn sent(line: &mut Line, at: usize, sends: bool) -> usize {

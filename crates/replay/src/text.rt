@@ -1,4 +1,5 @@
 // Lines of text, put together in a buffer of the caller's: each function lays something at a place of the line and gives the place after it.
+use libc::STDERR_FILENO;
 use libc::STDOUT_FILENO;
 
 // More than the longest line has, which tells an output of 1,600 octets in hexadecimal. What would not fit is left out.
@@ -6,13 +7,6 @@ pub(crate) type Line = [u8; 4096];
 
 pub(crate) fn blank() -> Line {
     [0; 4096]
-}
-
-// The index of an event, its word, and the number of the answer.
-pub(crate) fn begin(line: &mut Line, index: u64, event: &[u8], number: u8) -> usize {
-    let mut at = decimal(line, 0, index);
-    at = word(line, at, event);
-    decimal(line, at, number as u64)
 }
 
 pub(crate) fn word(line: &mut Line, at: usize, text: &[u8]) -> usize {
@@ -23,6 +17,34 @@ pub(crate) fn word(line: &mut Line, at: usize, text: &[u8]) -> usize {
 pub(crate) fn field(line: &mut Line, at: usize, name: &[u8], number: u64) -> usize {
     let after = word(line, at, name);
     decimal(line, after, number)
+}
+
+// A text with numbers in it: each `#` stands for the next of them. One call lays many fields, since calls are what the check of a function costs.
+pub(crate) fn fields(line: &mut Line, start: usize, text: &[u8], numbers: &[u64]) -> usize {
+    let mut at = start;
+    let mut next = 0;
+    for i in 0..text.len() {
+        at = piece(line, at, text[i], numbers, next);
+        next = past(text[i], numbers, next);
+    }
+    at
+}
+
+// An octet of such a text, or the number that it stands for; there are no numbers past the end of the list.
+fn piece(line: &mut Line, at: usize, octet: u8, numbers: &[u64], next: usize) -> usize {
+    if octet == b'#' && next < numbers.len() {
+        decimal(line, at, numbers[next])
+    } else {
+        wire::lay(line, at, &[octet])
+    }
+}
+
+// The place of the next number once this octet is laid.
+fn past(octet: u8, numbers: &[u64], next: usize) -> usize {
+    if octet != b'#' {
+        return next;
+    }
+    if next < numbers.len() { next + 1 } else { next }
 }
 
 pub(crate) fn decimal(line: &mut Line, at: usize, number: u64) -> usize {
@@ -58,7 +80,7 @@ pub(crate) fn handles(
     line: &mut Line,
     start: usize,
     name: &[u8],
-    all: &[u32],
+    all: &[u32; 32],
     count: usize,
 ) -> usize {
     let mut at = word(line, start, name);
@@ -66,7 +88,7 @@ pub(crate) fn handles(
         return word(line, at, b"-");
     }
     let mut i = 0;
-    while i < all.len() && i < count {
+    while i < 32 && i < count {
         at = entry(line, at, i, handle(all[i]));
         i += 1;
     }
@@ -78,7 +100,7 @@ pub(crate) fn numbers(
     line: &mut Line,
     start: usize,
     name: &[u8],
-    all: &[u16],
+    all: &[u16; 32],
     count: usize,
 ) -> usize {
     let mut at = word(line, start, name);
@@ -86,7 +108,7 @@ pub(crate) fn numbers(
         return word(line, at, b"-");
     }
     let mut i = 0;
-    while i < all.len() && i < count {
+    while i < 32 && i < count {
         at = entry(line, at, i, number(all[i]));
         i += 1;
     }
@@ -110,8 +132,13 @@ fn number(value: u16) -> u64 {
     value as u64
 }
 
-// The line ends here, and goes out.
-pub(crate) fn send(line: &mut Line, at: usize) {
+// The line ends here, and goes out. Whether it did: a disk may be full, and a reader gone.
+pub(crate) fn send(line: &mut Line, at: usize) -> bool {
     let end = word(line, at, b"\n");
-    io::write_all(STDOUT_FILENO, wire::part(line, 0, end));
+    io::write_all(STDOUT_FILENO, wire::part(line, 0, end))
+}
+
+// Says something to whoever started the program. Nobody is left to be told where this fails.
+pub(crate) fn say(what: &[u8]) {
+    io::write_all(STDERR_FILENO, what);
 }

@@ -16,12 +16,6 @@ slice-aggregate-word c = search needs
 word-requires : tie.Need-word-requires Inv-loop μ-loop
 word-requires c κs = search needs
 
-slice-aggregate-word-2 : tie.Need-slice-aggregate-word-2 Inv-loop μ-loop
-slice-aggregate-word-2 c = search needs
-
-word-requires-2 : tie.Need-word-requires-2 Inv-loop μ-loop
-word-requires-2 c κs = search needs
-
 returns : tie.Need-returns Inv-loop μ-loop
 returns c = search needs
 
@@ -66,8 +60,6 @@ cells-spec =
     μ-loop
     slice-aggregate-word
     word-requires
-    slice-aggregate-word-2
-    word-requires-2
     returns
     loop-holds
     element-copy-out-cell

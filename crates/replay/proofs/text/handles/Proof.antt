@@ -1,6 +1,5 @@
--- `replay::handles` is safe and ends: what is left of the list falls with each turn.
+-- `replay::handles` is safe and ends: a list has 32 entries at most.
 use Prim.Native.Nat.{_-_}
-use lib.ListN.{length}
 use borrow.Author.Needs.{needs}
 use Rattle.replay.proofs.text.handles.Statement.{statement}
 use Rattle.replay.proofs.text.handles.Tie as tie
@@ -9,7 +8,7 @@ abbrev Inv-loop : tie.InvT-loop
 Inv-loop line₀ start name all count at₀ i₀ line at i = Unit {0}
 
 abbrev μ-loop : tie.MeasureT-loop
-μ-loop line₀ start name all count at₀ i₀ line at i = length all - i
+μ-loop line₀ start name all count at₀ i₀ line at i = 32 - i
 
 word-requires : tie.Need-word-requires Inv-loop μ-loop
 word-requires c κs = search needs
@@ -29,8 +28,8 @@ loop-holds c = search needs
 mul-handle : tie.Need-mul-handle Inv-loop μ-loop
 mul-handle c = search needs
 
-shared-slice-read-handle : tie.Need-shared-slice-read-handle Inv-loop μ-loop
-shared-slice-read-handle c = search needs
+element-copy-out-handle : tie.Need-element-copy-out-handle Inv-loop μ-loop
+element-copy-out-handle c = search needs
 
 handle-requires : tie.Need-handle-requires Inv-loop μ-loop
 handle-requires c κs = search needs
@@ -65,7 +64,7 @@ handles-spec =
     returns
     loop-holds
     mul-handle
-    shared-slice-read-handle
+    element-copy-out-handle
     handle-requires
     entry-requires
     add-i

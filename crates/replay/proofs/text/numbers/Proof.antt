@@ -1,6 +1,5 @@
--- `replay::numbers` is safe and ends: what is left of the list falls with each turn.
+-- `replay::numbers` is safe and ends: a list has 32 entries at most.
 use Prim.Native.Nat.{_-_}
-use lib.ListN.{length}
 use borrow.Author.Needs.{needs}
 use Rattle.replay.proofs.text.numbers.Statement.{statement}
 use Rattle.replay.proofs.text.numbers.Tie as tie
@@ -9,7 +8,7 @@ abbrev Inv-loop : tie.InvT-loop
 Inv-loop line₀ start name all count at₀ i₀ line at i = Unit {0}
 
 abbrev μ-loop : tie.MeasureT-loop
-μ-loop line₀ start name all count at₀ i₀ line at i = length all - i
+μ-loop line₀ start name all count at₀ i₀ line at i = 32 - i
 
 word-requires : tie.Need-word-requires Inv-loop μ-loop
 word-requires c κs = search needs
@@ -29,8 +28,8 @@ loop-holds c = search needs
 mul-number : tie.Need-mul-number Inv-loop μ-loop
 mul-number c = search needs
 
-shared-slice-read-number : tie.Need-shared-slice-read-number Inv-loop μ-loop
-shared-slice-read-number c = search needs
+element-copy-out-number : tie.Need-element-copy-out-number Inv-loop μ-loop
+element-copy-out-number c = search needs
 
 number-requires : tie.Need-number-requires Inv-loop μ-loop
 number-requires c κs = search needs
@@ -65,7 +64,7 @@ numbers-spec =
     returns
     loop-holds
     mul-number
-    shared-slice-read-number
+    element-copy-out-number
     number-requires
     entry-requires
     add-i
