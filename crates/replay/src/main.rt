@@ -46,7 +46,13 @@ fn main() {
     }
 }
 
-// Reads an entry and answers it.
+// What an entry holds: an event, in a body of so many octets, or the end of the run.
+enum Heard {
+    Event(Body, u16),
+    Over,
+}
+
+// Reads an entry and answers it. Each part answers its own events, and passes the others over.
 fn taken(
     keys: &mut Keys,
     words: &mut Words,
@@ -56,33 +62,52 @@ fn taken(
     station: Station,
     index: u64,
 ) -> Turn {
+    let heard = hear(body, index);
+    let Heard::Event(event, length) = heard else {
+        return Turn::Over;
+    };
+    let rest = session::rest(wire::part(body, 0, length as usize));
+    let mut line = text::blank();
+    let mut at = text::decimal(&mut line, 0, index);
+    at = channels::answer(keys, words, handles, marks, &mut line, at, event);
+    at = rates::answer(&mut line, at, event, rest);
+    let step = stations::answer(&mut line, at, event, station);
+    let after = step.station;
+    if sent(&mut line, step.end) {
+        Turn::Next(after)
+    } else {
+        Turn::Over
+    }
+}
+
+fn hear(body: &mut [u8; 65536], index: u64) -> Heard {
     let entry = stream::next(body);
     match entry {
-        Entry::Body(length) => answered(
-            keys,
-            words,
-            handles,
-            marks,
-            wire::part(body, 0, length as usize),
-            station,
-            index,
-        ),
+        Entry::Body(length) => read(wire::part(body, 0, length as usize), length, index),
         Entry::Cut => ended(index, b" cut"),
         Entry::Failed => ended(index, b" failed"),
-        Entry::End => Turn::Over,
+        Entry::End => Heard::Over,
     }
+}
+
+fn read(body: &[u8], length: u16, index: u64) -> Heard {
+    let event = session::read(body);
+    if let Body::Unreadable = event {
+        return ended(index, b" unreadable");
+    }
+    Heard::Event(event, length)
 }
 
 // The run ends before the session does. The line says why; and since a program of the kit has no exit status to give, it is told on standard error
 // too, where a run that answers all of its session says nothing.
-fn ended(index: u64, why: &[u8]) -> Turn {
+fn ended(index: u64, why: &[u8]) -> Heard {
     let mut line = text::blank();
     let at = text::decimal(&mut line, 0, index);
     let end = text::word(&mut line, at, why);
     if sent(&mut line, end) {
         text::say(b"replay: the session was not answered to its end; the last line says why\n");
     }
-    Turn::Over
+    Heard::Over
 }
 
 // Sends a line, or says that it could not.
@@ -92,31 +117,4 @@ fn sent(line: &mut text::Line, end: usize) -> bool {
     }
     text::say(b"replay: the answers could not be written\n");
     false
-}
-
-// Each part answers its own events, and passes the others over.
-fn answered(
-    keys: &mut Keys,
-    words: &mut Words,
-    handles: &mut Handles,
-    marks: &mut Marks,
-    body: &[u8],
-    station: Station,
-    index: u64,
-) -> Turn {
-    let event = session::read(body);
-    if let Body::Unreadable = event {
-        return ended(index, b" unreadable");
-    }
-    let mut line = text::blank();
-    let mut at = text::decimal(&mut line, 0, index);
-    at = channels::answer(keys, words, handles, marks, &mut line, at, event);
-    at = rates::answer(&mut line, at, event, session::rest(body));
-    let step = stations::answer(&mut line, at, event, station);
-    let after = step.station;
-    if sent(&mut line, step.end) {
-        Turn::Next(after)
-    } else {
-        Turn::Over
-    }
 }
