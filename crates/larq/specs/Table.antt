@@ -1,11 +1,11 @@
 -- The table of channels, the numbers in their order, and a call on the table.
 -- Document 01, 'The channel table' and 'Numbers the box may answer with'.
 use Prim.Native.Nat.{ℕ}
-use mathlib.Core.Bool.{Bool, true, false, cond, _&&_, _||_}
+use mathlib.Core.Bool.{Bool, true, false, cond, _&&_, _||_, not}
 use mathlib.Core.List.{List, [], _∷_}
 use lib.Dec.{leb, eqb}
 use Rattle.wire.specs.Refusals.{Refusal, _else_, answered}
-use Rattle.ring.specs.Ring.{Side, Ahead, Behind, Far}
+use Rattle.ring.specs.Ring.{Side, isFar}
 use Rattle.larq.specs.Channel.{Channel, sound}
 use Rattle.larq.specs.Answer.{Change, same, holds, freed, Outcome, refused, accepted}
 use Rattle.larq.specs.Events.{Act, frame, reminder, tick, close, opened, sideOf, act-on}
@@ -106,9 +106,7 @@ notBefore t c = leb (c .latest) t
 
 -- number 8
 abbrev pub notFar : Side → Bool
-notFar (Ahead d) = true
-notFar (Behind d) = true
-notFar Far = false
+notFar side = not (isFar side)
 
 abbrev pub reminderNear : {H : Type 0} → ℕ → Act H → Channel H → Bool
 reminderNear w (frame s h) c = true
