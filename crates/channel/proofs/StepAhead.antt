@@ -16,9 +16,8 @@ use Rattle.record.specs.Place.{window, cellAt, recordWith}
 use Rattle.channel.specs.Call.{Did, parts, buffers}
 use Rattle.record.specs.Buffers.{Laid}
 use Rattle.record.specs.Walk.{earlier, waitingOf, Settles, settleNumbers}
-use Rattle.record.specs.Step.{Missed, stamped, canWiden, Widened, Widens}
+use Rattle.record.specs.Step.{Missed, stamped, Widened, Widens}
 use Rattle.channel.specs.Steps.{Sized, Ready, Roomy, walkOf, Finished, answerOf, Last, Waits, Missing, cellsOf, handlesWith, marksWith, IsAhead}
-use Rattle.record.specs.Judge.{lentOf}
 use Rattle.record.specs.Moving.{recordIn, spanIn, IsGrown}
 use Rattle.channel.specs.declared.Answer.{Answer}
 use Rattle.record.specs.declared.Record.{Record}
@@ -26,7 +25,7 @@ use Rattle.record.specs.declared.Grown.{Grown}
 use Rattle.record.specs.declared.step.Counts.{Counts}
 use Rattle.record.specs.declared.step.Passed.{Passed}
 use Rattle.record.specs.declared.window.Settled.{Settled}
-use Rattle.record.proofs.Stepping.{can-widen}
+use Rattle.record.proofs.Stepping.{can-step}
 use Rattle.record.proofs.Walks.{never-lost}
 use Rattle.record.proofs.Laying.{laid-length, laid-laid, wrote-front, wrote-none}
 use Rattle.record.proofs.Stamping.{length-stamped}
@@ -36,12 +35,11 @@ use Rattle.channel.proofs.Growing.{Grows, new-cell, walk-again, past-fe
 -- the step can be taken, and so it is
 pub stepped : {r : Record} {W H K U N w₁ k₁ u₁ q₁ : List ℕ} {s k t : ℕ} {last : Last} {p : Passed} → Ready r W H K → IsAhead (r .current .0) s k last
     → 32 ≤ length U → 32 ≤ length N
-    → Widens (canWiden (lentOf (length W) (length H) (length K) (length U) (length U) (length N)) (spanIn r) k (steps (r .current .0) s))
-    r s k t W H K U N w₁ k₁ u₁ q₁ p
+    → Widens r s k t W H K U N w₁ k₁ u₁ q₁ p
     → Widened r s k t W H K U N w₁ k₁ u₁ q₁ p
 stepped {r = r} {W = W} {H = H} {K = K} {U = U} {N = N} {s = s} {k = k} ready is-ahead room-up room-nack widens =
     widens .taken
-    (can-widen {w = W} {h = H} {k = K} {u = U} {q = N} {span = spanIn r} {made = k} {d = steps (r .current .0) s}
+    (can-step r s k W H K U N
     (record {
       enough = record {
         up-room = room-up;

@@ -14,7 +14,7 @@ use Rattle.larq.specs.Table.{lentEnough}
 use Rattle.record.specs.Buffers.{Laid}
 use Rattle.record.specs.Judge.{lentOf}
 use Rattle.record.specs.Moving.{spanIn, IsGrown}
-use Rattle.record.specs.Step.{canWiden}
+use Rattle.record.specs.Step.{canStep}
 use Rattle.record.specs.Walk.{waitingOf, handNumbers}
 use Rattle.record.specs.declared.Record.{Record}
 use Rattle.record.specs.declared.Grown.{Grown}
@@ -31,38 +31,37 @@ not-both b e f = no-one (ap count (sym e ∙ f))
     no-one : {A : Type 0} → count true ≡ count false → A
     no-one e = absurd (let z : ⊥ = omega arith in z)
 
--- what the test says, of a step that makes so many of d numbers missing
-pub record Fits (w h k u q : List ℕ) (span made d : ℕ) : Type 0 where
+-- what the test says, of a step to s that makes so many numbers missing
+pub record Fits (r : Record) (s made : ℕ) (w h k u q : List ℕ) : Type 0 where
   pub enough : Enough (length w) (length h) (length k) (length u) (length u) (length q)
-  pub narrow : span ≤ 32
-  pub few : made ≤ d
+  pub narrow : spanIn r ≤ 32
+  pub few : made ≤ steps (r .current .0) s
 
-module _ {w h k u q : List ℕ} {span made d : ℕ} where
-  pub fits-of : canWiden (lentOf (length w) (length h) (length k) (length u) (length u) (length q)) span made d ≡ true → Fits w h k u q span made d
+module _ (r : Record) (s made : ℕ) (w h k u q : List ℕ) where
+  pub fits-of : canStep r s made w h k u q ≡ true → Fits r s made w h k u q
   fits-of e =
       let lent = lentEnough channel.window (lentOf (length w) (length h) (length k) (length u) (length u) (length q)) in
       let rest = and-right lent _ e in
       record {
         enough = enough-of (length w) (length h) (length k) (length u) (length u) (length q) (and-left lent _ e);
-        narrow = leb-true span 32 (and-left (leb span 32) _ rest);
-        few = leb-true made d (and-right (leb span 32) _ rest);
+        narrow = leb-true (spanIn r) 32 (and-left (leb (spanIn r) 32) _ rest);
+        few = leb-true made (steps (r .current .0) s) (and-right (leb (spanIn r) 32) _ rest);
       }
 
-  pub can-widen : Fits w h k u q span made d → canWiden (lentOf (length w) (length h) (length k) (length u) (length u) (length q)) span made d ≡ true
-  can-widen f =
+  pub can-step : Fits r s made w h k u q → canStep r s made w h k u q ≡ true
+  can-step f =
       rw (
         le-leb 32 (length u) (f .enough .up-room),
         le-leb 32 (length q) (f .enough .nack-room),
         eq-eqb (length w) 35 (f .enough .words-sized),
         eq-eqb (length h) 32 (f .enough .handles-sized),
         eq-eqb (length k) 32 (f .enough .marks-sized),
-        le-leb span 32 (f .narrow),
-        le-leb made d (f .few),
+        le-leb (spanIn r) 32 (f .narrow),
+        le-leb made (steps (r .current .0) s) (f .few),
       )
 
 -- M goes by no more numbers at once than it has to pass, and no more are asked for than the window has.
-module _ {r : Record} {w h k u q : List ℕ} {s made t : ℕ} {to : Grown} (fits : Fits w h k u q (spanIn r) made (steps (r .current .0) s))
-    (is : IsGrown r s made t to) where
+module _ {r : Record} {w h k u q : List ℕ} {s made t : ℕ} {to : Grown} (fits : Fits r s made w h k u q) (is : IsGrown r s made t to) where
   pub asked-few : to .count ≤ 32
   asked-few = omega (arith, is .count, is .over, fits .narrow, fits .few)
 

@@ -3,14 +3,15 @@ use Prim.Native.Nat.{ℕ, zero, suc, _+_, _-_, _%_}
 use mathlib.Core.Path.{_≡_}
 use mathlib.Core.Bool.{Bool, true, false, _&&_}
 use mathlib.Core.List.{List}
-use lib.ListN.{set}
+use lib.ListN.{length, set}
 use lib.Seq.{sets}
 use lib.Dec.{leb}
-use Rattle.ring.specs.Ring.{next, rising}
+use Rattle.ring.specs.Ring.{steps, next, rising}
 use Rattle.larq.specs.Channel.{window}
 use Rattle.larq.specs.Table.{Lent, lentEnough}
 use Rattle.record.specs.Buffers.{Laid}
-use Rattle.record.specs.Moving.{IsGrown}
+use Rattle.record.specs.Judge.{lentOf}
+use Rattle.record.specs.Moving.{spanIn, IsGrown}
 use Rattle.record.specs.Walk.{waitingOf}
 use Rattle.record.specs.declared.Record.{Record}
 use Rattle.record.specs.declared.Grown.{Grown}
@@ -31,6 +32,11 @@ pub record Missed (m n time : ℕ) (w k q w′ k′ q′ : List ℕ) : Type 0 wh
 -- a step by d numbers, `made` of which become missing, can be taken: parts and buffers are as long as they should be, and the window is not too wide
 abbrev pub canWiden : Lent → ℕ → ℕ → ℕ → Bool
 canWiden lent span made d = lentEnough window lent && (leb span window && leb made d)
+
+-- whether C can come to s so, in these parts and buffers
+abbrev pub canStep : Record → ℕ → ℕ → List ℕ → List ℕ → List ℕ → List ℕ → List ℕ → Bool
+canStep r s made w h k u q =
+    canWiden (lentOf (length w) (length h) (length k) (length u) (length u) (length q)) (spanIn r) made (steps (r .current .0) s)
 
 -- nothing has been answered yet
 abbrev pub nothing : Counts
@@ -57,6 +63,6 @@ pub record Unwidened (r : Record) (w k u q w′ k′ u′ q′ : List ℕ) (p : 
   pub passed : p ≡ record { grown = unmoved r; had = nothing }
 
 -- the step is taken where it can be, and nothing is done where it cannot
-pub record Widens (can : Bool) (r : Record) (s made time : ℕ) (w h k u q w′ k′ u′ q′ : List ℕ) (p : Passed) : Type 0 where
-  pub taken : can ≡ true → Widened r s made time w h k u q w′ k′ u′ q′ p
-  pub left : can ≡ false → Unwidened r w k u q w′ k′ u′ q′ p
+pub record Widens (r : Record) (s made time : ℕ) (w h k u q w′ k′ u′ q′ : List ℕ) (p : Passed) : Type 0 where
+  pub taken : canStep r s made w h k u q ≡ true → Widened r s made time w h k u q w′ k′ u′ q′ p
+  pub left : canStep r s made w h k u q ≡ false → Unwidened r w k u q w′ k′ u′ q′ p

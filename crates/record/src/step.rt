@@ -111,8 +111,7 @@ impl Record {
         made: u16,
         time: u64,
     ) -> Passed
-        ensures { λ p. ⌜ Widens (canWiden (lentOf (length (now (words .entry))) (length (now (handles .entry))) (length (now (marks .entry))) (length (now (up .entry))) (length (now (up .entry))) (length (now (nack .entry)))) (spanIn self) made (steps (self .current .0) (s .0)))
-            self (s .0) made time (now (words .entry)) (now (handles .entry)) (now (marks .entry)) (now (up .entry)) (now (nack .entry))
+        ensures { λ p. ⌜ Widens self (s .0) made time (now (words .entry)) (now (handles .entry)) (now (marks .entry)) (now (up .entry)) (now (nack .entry))
             (now (words .exit)) (now (marks .exit)) (now (up .exit)) (now (nack .exit)) p ⌝ }
     {
         if !self.can_widen(

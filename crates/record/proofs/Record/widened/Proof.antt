@@ -4,11 +4,7 @@ use mathlib.Core.Bool.{true}
 use native.Mathlib.Omega.{arith}
 use borrow.Author.Tests.{not-true, not-false}
 use Rattle.record.proofs.Stepping.{not-both, Fits, fits-of, asked-few, handed-all, handed-few}
-use lib.ListN.{length}
-use Rattle.ring.specs.Ring.{steps}
-use Rattle.record.specs.Judge.{lentOf}
-use Rattle.record.specs.Moving.{spanIn}
-use Rattle.record.specs.Step.{canWiden}
+use Rattle.record.specs.Step.{canStep}
 use borrow.Author.Needs.{needs}
 use Rattle.record.proofs.Record.widened.Statement.{statement}
 use Rattle.record.proofs.Record.widened.Tie as tie
@@ -25,15 +21,16 @@ abbrev at-entry : tie.After-grown → tie.Start
 at-entry c = c .before .before .before .before .before .before .before .before
 
 can : (c : tie.After-grown)
-    → canWiden
-    (lentOf (length (at-entry c .args .words .now)) (length (at-entry c .args .handles .now)) (length (at-entry c .args .marks .now)) (length (at-entry c .args .up .now)) (length (at-entry c .args .up .now)) (length (at-entry c .args .nack .now)))
-    (spanIn (at-entry c .args .self)) (at-entry c .args .made) (steps (at-entry c .args .self .current .0) (at-entry c .args .s .0)) ≡ true
+    → canStep (at-entry c .args .self) (at-entry c .args .s .0) (at-entry c .args .made)
+    (at-entry c .args .words .now) (at-entry c .args .handles .now) (at-entry c .args .marks .now) (at-entry c .args .up .now) (at-entry c .args .nack .now) ≡ true
 can c = sym (c .before .before .can-widen .ensures) ∙ not-false _ (c .before .if1 .left)
 
 fits : (c : tie.After-grown)
-    → Fits (at-entry c .args .words .now) (at-entry c .args .handles .now) (at-entry c .args .marks .now) (at-entry c .args .up .now) (at-entry c .args .nack .now)
-    (spanIn (at-entry c .args .self)) (at-entry c .args .made) (steps (at-entry c .args .self .current .0) (at-entry c .args .s .0))
-fits c = fits-of (can c)
+    → Fits (at-entry c .args .self) (at-entry c .args .s .0) (at-entry c .args .made)
+    (at-entry c .args .words .now) (at-entry c .args .handles .now) (at-entry c .args .marks .now) (at-entry c .args .up .now) (at-entry c .args .nack .now)
+fits c =
+    fits-of (at-entry c .args .self) (at-entry c .args .s .0) (at-entry c .args .made)
+    (at-entry c .args .words .now) (at-entry c .args .handles .now) (at-entry c .args .marks .now) (at-entry c .args .up .now) (at-entry c .args .nack .now) (can c)
 
 can-widen-requires : tie.Need-can-widen-requires
 can-widen-requires c κs = search needs
