@@ -102,7 +102,7 @@ pub fn data(
     }
 }
 
-// A frame comes to a record that no number refuses it.
+// A frame that no number refuses comes to the record.
 fn arrive(
     r: Record,
     words: &mut [u64],

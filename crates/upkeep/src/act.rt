@@ -21,7 +21,7 @@ use zeros::zero_u8;
 use zeros::zero_u32;
 use zeros::zero_u64;
 
-// A reminder's number s lies ahead: it and those before it, `made` in all, become missing, and M settles.
+// A reminder's number s lies ahead: it and those before it, `made` in all, become missing, and M settles. It gives nothing up by its time.
 pub(crate) fn told(
     r: Record,
     words: &mut [u64],

@@ -21,7 +21,7 @@ use record::Record;
 use record::judge;
 use ring::Seq;
 
-// A reminder comes to a record that no common number refuses it: it tells of numbers ahead, changes only the latest time, or is from far.
+// A reminder that no common number refuses: it tells of numbers ahead, changes only the latest time, or is from far.
 fn remind(
     r: Record,
     words: &mut [u64],
