@@ -1,22 +1,19 @@
 -- A call on an open place, from what was decided and what was done: the rule for the event is the refusal by the number that was decided, or
 -- what the event does. Assumes nothing.
-use Prim.Native.Nat.{ℕ, zero, suc, _+_, _-_, _%_, _≤_, _<_}
-use mathlib.Core.Path.{_≡_, refl, ap, ap₂, sym, _∙_, subst⁻¹}
-use mathlib.Core.Bool.{Bool, true, false, cond, _&&_}
+use Prim.Native.Nat.{ℕ, _-_, _<_}
+use mathlib.Core.Path.{_≡_, refl, ap, _∙_, subst⁻¹}
+use mathlib.Core.Bool.{Bool, true, false, cond}
 use mathlib.Core.List.{List, [], _∷_}
 use native.Mathlib.Omega.{arith}
-use lib.Dec.{eqb, leb}
-use lib.ListN.{length, getD, set}
-use Rattle.wire.specs.Refusals.{Refusal, first, _else_}
-use Rattle.ring.specs.Ring.{next, seen, Side, Ahead, Behind, Far}
+use lib.Dec.{leb}
+use Rattle.wire.specs.Refusals.{first, _else_}
 use Rattle.larq.specs.Channel as channel
-use Rattle.larq.specs.Channel.{Cell, Channel, waits, missing, headMissing, times, orderly, sound, reach}
-use Rattle.larq.specs.Answer.{Change, Outcome, refused, accepted, holds}
-use Rattle.larq.specs.Events.{Act, act-on, sideOf}
+use Rattle.larq.specs.Channel.{Channel, sound}
+use Rattle.larq.specs.Answer.{Change, Outcome, refused}
+use Rattle.larq.specs.Events.{Act, act-on}
 use Rattle.larq.specs.Table.{one, lentEnough, numberInRing, notBefore, reminderNear}
-use Rattle.record.specs.Place.{window, cellAt, spanOf, recordWith, recordOf}
-use Rattle.record.specs.Buffers.{Wrote}
-use Rattle.channel.specs.Call.{Buffers, Parts, parts, buffers, Answered, Became, Says, Did, Called, ruleAt}
+use Rattle.record.specs.Place.{window, recordWith, recordOf}
+use Rattle.channel.specs.Call.{Buffers, Parts, buffers, Answered, Became, Says, Did, Called, ruleAt}
 use Rattle.channel.specs.Steps.{lentAt}
 use Rattle.channel.specs.declared.Answer.{Answer}
 use Rattle.record.specs.declared.Record.{Record}

@@ -1,13 +1,12 @@
 -- What stores in the parts of a place make of its slots: a number that waits from now on, and numbers that are missing from now on.
 -- Assumes nothing.
 use Prim.Native.Nat.{ℕ, _+_, _-_, _%_, _≤_, _<_}
-use mathlib.Core.Path.{_≡_, refl, ap, ap₂, sym, _∙_}
-use mathlib.Core.List.{List, [], _∷_, _++_}
+use mathlib.Core.Path.{_≡_, ap, ap₂, sym, _∙_}
+use mathlib.Core.List.{List, _++_}
 use native.Mathlib.Omega.{arith}
 use native.Mathlib.Nat.{zero-add}
 use lib.ListN.{length, getD, set, replicate}
 use lib.Seq.{getD-set-same, getD-set-other}
-use borrow.Author.Tests.{eq-eqb}
 use Rattle.ring.specs.Ring.{size, forward}
 use Rattle.larq.specs.Channel.{Cell, waits, missing}
 use Rattle.record.specs.Place.{window, cellAt}

@@ -1,16 +1,16 @@
 -- A data frame by where its number lies: what was done is what the rules say of it. Document 01, 'Data'. Assumes nothing.
-use Prim.Native.Nat.{ℕ, _-_, _≤_, _<_}
+use Prim.Native.Nat.{ℕ, _-_, _<_}
 use mathlib.Core.Path.{_≡_, refl, ap, sym, _∙_}
 use mathlib.Core.List.{List, [], _∷_, _++_}
 use native.Mathlib.Omega.{arith}
 use lib.ListN.{length, set}
-use Rattle.ring.specs.Ring.{next, steps, seen, Side, Ahead, Behind, Far}
+use Rattle.ring.specs.Ring.{next, steps, seen, Side, Ahead, Far}
 use Rattle.larq.specs.Channel as channel
 use Rattle.larq.specs.Channel.{waits, reach, Channel}
 use Rattle.larq.specs.Settling.{walk, wide}
-use Rattle.larq.specs.Answer.{Outcome, accepted, holds}
+use Rattle.larq.specs.Answer.{accepted, holds}
 use Rattle.larq.specs.Events.{frame, act-on, data-on, ahead, restarted, opened, asked, settledAt, taken}
-use Rattle.record.specs.Place.{window, cellAt, spanOf, recordWith, recordOf}
+use Rattle.record.specs.Place.{window, cellAt, spanOf, recordWith}
 use Rattle.channel.specs.Call.{Parts, Buffers, parts, buffers, Says, Did, Called}
 use Rattle.record.specs.Moving.{recordIn, spanIn, headed}
 use Rattle.channel.specs.Steps.{Ready, answerOf, filledAt, dataAt}

@@ -6,12 +6,12 @@ use mathlib.Core.Path.{_≡_, refl, ap, ap₂, sym, _∙_}
 use mathlib.Core.Bool.{true}
 use mathlib.Core.List.{List, [], _∷_, _++_, append-nil}
 use native.Mathlib.Omega.{arith}
-use lib.ListN.{length, getD, set, take, drop, replicate, length-append, length-replicate, length-drop}
+use lib.ListN.{length, getD, take, drop, replicate, length-append, length-replicate, length-drop}
 use lib.Seq.{drop-append-le}
 use borrow.Author.Tests.{le-ltb}
 use Rattle.ring.specs.Ring.{size, forward, next, steps, rising}
 use Rattle.ring.proofs.Steps.{forward-small, forward-forward, forward-steps}
-use Rattle.larq.specs.Channel.{Cell, waits, missing, waiting, headMissing, reach, Channel}
+use Rattle.larq.specs.Channel.{Cell, missing, waiting, headMissing, reach, Channel}
 use Rattle.larq.specs.Settling.{Walked, walk, wide}
 use Rattle.larq.specs.Events.{asked}
 use Rattle.record.specs.Place.{window, cellAt, spanOf}
@@ -19,11 +19,11 @@ use Rattle.record.specs.Walk.{earlier, passes, waitingOf}
 use Rattle.record.specs.Step.{stamped}
 use Rattle.channel.specs.Steps.{Sized, cellsOf, handlesWith, marksWith, Last, Waits, Missing}
 use Rattle.record.proofs.Rounds.{slots-apart, span-end, span-between}
-use Rattle.record.proofs.Windows.{window-none, window-suc, length-window, drop-window, take-window, cell-missing}
+use Rattle.record.proofs.Windows.{length-window, drop-window, take-window, cell-missing}
 use Rattle.record.proofs.Waiting.{waiting-window}
 use Rattle.record.proofs.Stamping.{length-stamped}
 use Rattle.channel.proofs.Cells.{cell-brought, cell-beside, cell-missed, cell-unmissed, window-grown}
-use Rattle.record.proofs.Walks.{so-far, Passed, passed, waiting-append, waiting-few, waiting-fewer, waiting-none, up-few, passes-before, walk-narrow, walk-wide}
+use Rattle.record.proofs.Walks.{so-far, Passed, passed, waiting-append, waiting-fewer, waiting-none, up-few, passes-before, walk-narrow, walk-wide}
 use Rattle.record.proofs.Appending.{drop-append, take-append, drop-replicate}
 use Rattle.channel.proofs.Asking.{asked-run}
 

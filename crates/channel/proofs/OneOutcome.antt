@@ -2,7 +2,7 @@
 -- same answer, number and counts, and the same buffers, and leave the place alike: the very same parts where the call was refused or the place is
 -- freed, and else the same record, by which document 01 compares open places ('The channel table'). Assumes nothing.
 use Prim.Native.Nat.{ℕ}
-use mathlib.Core.Path.{_≡_, refl, ap, sym, _∙_}
+use mathlib.Core.Path.{_≡_, refl, sym, _∙_}
 use mathlib.Core.List.{List}
 use Rattle.larq.specs.Answer.{Change, same, holds, freed, Outcome}
 use Rattle.larq.specs.Events.{Act}

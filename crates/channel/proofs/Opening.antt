@@ -1,24 +1,24 @@
 -- What an event that no number of the common ones refuses may rely on: lengths, a number in the ring and a sound record, as the functions
 -- that act ask for them. Assumes nothing.
-use Prim.Native.Nat.{ℕ, zero, suc, _-_, _%_, _≤_, _<_}
+use Prim.Native.Nat.{ℕ, _-_, _%_, _≤_, _<_}
 use mathlib.Core.Path.{_≡_, refl, ap, ap₂, sym, _∙_, subst}
-use mathlib.Core.Bool.{Bool, true, false, cond, _&&_, false≢true}
+use mathlib.Core.Bool.{Bool, true, false, false≢true}
 use mathlib.Core.List.{List, [], _∷_}
 use native.Mathlib.Omega.{arith}
 use lib.Dec.{eqb, leb}
 use lib.ListN.{length, getD}
 use borrow.Author.Tests.{leb-true, eqb-true, eqb-false}
-use Rattle.wire.specs.Refusals.{Refusal, first, _else_}
+use Rattle.wire.specs.Refusals.{first, _else_}
 use Rattle.ring.specs.Ring.{next, steps, seen, Ahead}
 use Rattle.ring.proofs.Sides.{Seen, sees}
 use Rattle.larq.specs.Channel as channel
-use Rattle.larq.specs.Channel.{headMissing, times, orderly, sound, reach, waits, missing, Cell}
+use Rattle.larq.specs.Channel.{headMissing, sound, reach, waits}
 use Rattle.larq.specs.Table.{lentEnough, notBefore}
-use Rattle.record.specs.Place.{window, cellAt, spanOf, recordWith, recordOf}
+use Rattle.record.specs.Place.{window, cellAt, spanOf, recordOf}
 use Rattle.channel.specs.Call.{Parts, Buffers}
 use Rattle.record.specs.Moving.{recordIn, spanIn}
-use Rattle.channel.specs.Steps.{Sized, Ready, lentAt, testsAt, IsAhead, cellsOf, Last, Waits, Missing}
-use Rattle.record.specs.Judge.{Judges, RefusedBy, OpenAt, inRing, inShape, shapely}
+use Rattle.channel.specs.Steps.{Ready, lentAt, testsAt, IsAhead, Waits, Missing}
+use Rattle.record.specs.Judge.{Judges, RefusedBy, OpenAt, inRing, inShape}
 use Rattle.record.specs.declared.Record.{Record}
 use Rattle.record.specs.declared.judging.Judged.{Judged}
 use Rattle.record.specs.declared.judging.Judged.the-variants.{Refused, Open}

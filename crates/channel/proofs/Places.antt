@@ -1,15 +1,15 @@
 -- What a place means when C, M and the latest time are laid down in its words, and after M has settled. Assumes nothing.
 use Prim.Native.Nat.{ℕ, _+_, _-_, _%_, _≤_, _<_}
-use mathlib.Core.Path.{_≡_, refl, ap, ap₂, sym, _∙_}
+use mathlib.Core.Path.{_≡_, refl, ap, sym, _∙_}
 use mathlib.Core.Bool.{Bool}
 use mathlib.Core.List.{List}
 use native.Mathlib.Omega.{arith}
 use lib.ListN.{length, getD, set, length-set}
 use lib.Seq.{getD-set-same, getD-set-other}
 use borrow.Author.Tests.{lt-ltb}
-use Rattle.ring.specs.Ring.{size, forward, steps}
-use Rattle.larq.specs.Channel.{Cell, Channel}
-use Rattle.larq.specs.Settling.{Walked, walk}
+use Rattle.ring.specs.Ring.{size, forward}
+use Rattle.larq.specs.Channel.{Cell}
+use Rattle.larq.specs.Settling.{walk}
 use Rattle.larq.specs.Events.{moved, taken}
 use Rattle.record.specs.Place.{window, cellAt, spanOf, recordWith, recordOf}
 use Rattle.record.specs.Moving.{spanIn, headed, storedIn}

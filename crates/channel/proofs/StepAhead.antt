@@ -5,7 +5,7 @@ use mathlib.Core.Path.{_≡_, refl, ap, ap₂, sym, _∙_}
 use mathlib.Core.List.{List, [], _++_}
 use native.Mathlib.Omega.{arith}
 use native.Mathlib.Nat.{zero-add}
-use lib.ListN.{length, getD, length-append, length-set}
+use lib.ListN.{length, getD, length-append}
 use Rattle.ring.specs.Ring.{forward, steps, rising}
 use Rattle.ring.proofs.Steps.{forward-small, length-rising}
 use Rattle.larq.specs.Channel as channel
@@ -17,9 +17,8 @@ use Rattle.channel.specs.Call.{Did, parts, buffers}
 use Rattle.record.specs.Buffers.{Laid}
 use Rattle.record.specs.Walk.{earlier, waitingOf, Settles, settleNumbers}
 use Rattle.record.specs.Step.{Missed, stamped, Widened, Widens}
-use Rattle.channel.specs.Steps.{Sized, Ready, Roomy, walkOf, Finished, answerOf, Last, Waits, Missing, cellsOf, handlesWith, marksWith, IsAhead}
+use Rattle.channel.specs.Steps.{Sized, Ready, Roomy, walkOf, Finished, answerOf, Last, cellsOf, handlesWith, marksWith, IsAhead}
 use Rattle.record.specs.Moving.{recordIn, spanIn, IsGrown}
-use Rattle.channel.specs.declared.Answer.{Answer}
 use Rattle.record.specs.declared.Record.{Record}
 use Rattle.record.specs.declared.Grown.{Grown}
 use Rattle.record.specs.declared.step.Counts.{Counts}

@@ -3,30 +3,28 @@
 use Prim.Native.Nat.{ℕ, _+_, _-_, _%_, _≤_, _<_}
 use mathlib.Core.Path.{_≡_, refl, ap, ap₂, sym, _∙_}
 use mathlib.Core.Logic.{_⊎_, ⊎-elim}
-use mathlib.Core.Option.{some, none}
+use mathlib.Core.Option.{some}
 use mathlib.Core.List.{List, [], _∷_}
 use native.Mathlib.Omega.{arith}
-use lib.ListN.{length, getD, set, length-set}
-use lib.Seq.{getD-set-same, getD-set-other}
+use lib.ListN.{length, getD, set}
 use Rattle.ring.specs.Ring.{steps}
 use Rattle.larq.specs.Channel as channel
-use Rattle.larq.specs.Channel.{Cell, waits, missing, waiting}
-use Rattle.larq.specs.Settling.{Walked, walk, wide}
+use Rattle.larq.specs.Channel.{Cell, waits, missing}
+use Rattle.larq.specs.Settling.{Walked, walk}
 use Rattle.larq.specs.Answer.{accepted, holds}
-use Rattle.larq.specs.Events.{asked, filling, filled, settledAt, moved, taken}
-use Rattle.record.specs.Place.{window, cellAt, recordWith, recordOf}
-use Rattle.channel.specs.Call.{Did, Says, parts, buffers}
+use Rattle.larq.specs.Events.{asked, filled, settledAt, moved, taken}
+use Rattle.record.specs.Place.{window, cellAt, recordWith}
+use Rattle.channel.specs.Call.{Did, parts, buffers}
 use Rattle.record.specs.Walk.{earlier}
 use Rattle.record.specs.Moving.{recordIn, spanIn}
 use Rattle.record.specs.Step.{nothing}
 use Rattle.channel.specs.Steps.{Ready, Roomy, walkOf, Finished, answerOf, filledAt}
 use Rattle.record.specs.Judge.{MissingAt, KnownAt}
-use Rattle.channel.specs.declared.Answer.{Answer}
 use Rattle.record.specs.declared.step.Counts.{Counts}
 use Rattle.record.specs.declared.Record.{Record}
 use Rattle.record.proofs.Rounds.{slot-steps}
-use Rattle.record.proofs.Windows.{length-window, window-at, window-same, window-set, cell-waits, cell-missing}
-use Rattle.record.proofs.Laying.{wrote-front, wrote-none, wrote-one}
+use Rattle.record.proofs.Windows.{length-window, window-at, window-set, cell-waits, cell-missing}
+use Rattle.record.proofs.Laying.{wrote-front, wrote-none}
 use Rattle.channel.proofs.Cells.{cell-brought, cell-beside}
 use Rattle.record.proofs.Walks.{up-few, waiting-few, walk-narrow, never-lost}
 use Rattle.channel.proofs.Filling.{filling-missing, filling-waiting, filling-past}

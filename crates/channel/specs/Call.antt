@@ -1,13 +1,13 @@
 -- What a call on one open place promises: the answer and the buffers are the rule's, and the place means what the rule makes of its record.
 use Prim.Native.Nat.{ℕ}
 use mathlib.Core.Path.{_≡_}
-use mathlib.Core.Bool.{Bool, true}
+use mathlib.Core.Bool.{true}
 use mathlib.Core.List.{List, [], _∷_}
 use lib.ListN.{length, replicate}
 use Rattle.larq.specs.Channel.{window}
 use Rattle.larq.specs.Answer.{Change, same, holds, freed, Outcome}
 use Rattle.larq.specs.Events.{Act}
-use Rattle.larq.specs.Table.{Key, Lent, Event, one}
+use Rattle.larq.specs.Table.{Event, one}
 use Rattle.record.specs.Place.{recordOf, placeSized}
 use Rattle.record.specs.Buffers.{Wrote}
 use Rattle.channel.specs.declared.Answer.{Answer}

@@ -14,7 +14,7 @@ use Rattle.larq.specs.Events.{moved, filling, filled, data-on, reminder-on, sid
 use Rattle.larq.specs.Table.{Lent, notFar}
 use Rattle.record.specs.Place.{recordOf}
 use Rattle.record.specs.Buffers.{Laid}
-use Rattle.record.specs.Moving.{recordIn, spanIn, IsGrown}
+use Rattle.record.specs.Moving.{recordIn, spanIn}
 use Rattle.record.specs.Judge.{lentOf, common}
 use Rattle.record.specs.declared.Record.{Record}
 use Rattle.record.specs.Walk.{passes, walkFrom}

@@ -1,13 +1,13 @@
 -- Apart: nothing of another channel enters an answer, except that a new channel is refused when all places are taken.
 -- Demand 3, last sentence, for runs. A channel's answers follow from its records and events and, at each event, from whether a place is free.
 use Prim.Native.Nat.{ℕ}
-use mathlib.Core.Path.{_≡_, refl, ap, sym, _∙_, subst}
+use mathlib.Core.Path.{_≡_, refl, ap, sym, _∙_}
 use mathlib.Core.Logic.{_⊎_, inl, inr, ⊎-elim}
 use mathlib.Core.Bool.{Bool, true, false, cond}
 use native.Mathlib.Omega.{arith}
 use mathlib.Core.List.{List, [], _∷_, map}
 use Rattle.wire.proofs.ByCases.{answered-same-or-both}
-use Rattle.wire.specs.Refusals.{Refusal, _else_, answered}
+use Rattle.wire.specs.Refusals.{Refusal, _else_}
 use Rattle.larq.specs.Channel.{Channel}
 use Rattle.larq.specs.Answer.{Answer, Outcome, refused}
 use Rattle.larq.specs.Events.{Act, frame, reminder, tick, close}

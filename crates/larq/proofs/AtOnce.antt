@@ -1,11 +1,11 @@
 -- At once: an accepted frame with the next expected number, M, goes up in its own call, before all else. Demand 3, second half.
-use Prim.Native.Nat.{ℕ, zero, suc, _+_, _-_, _*_, _≤_, _<_}
+use Prim.Native.Nat.{ℕ, zero, suc, _+_, _-_, _≤_, _<_}
 use mathlib.Core.Path.{_≡_, refl, ap, sym, subst, _∙_}
-use mathlib.Core.Bool.{Bool, true, false}
+use mathlib.Core.Bool.{true}
 use mathlib.Core.List.{List, [], _∷_, _++_}
 use native.Mathlib.Omega.{arith}
 use lib.ListN.{length, replicate}
-use Rattle.ring.specs.Ring.{size, forward, next, steps, Side, Ahead, Behind, Far}
+use Rattle.ring.specs.Ring.{forward, next, steps, Side, Ahead, Behind, Far}
 use Rattle.ring.proofs.Sides.{Seen, sees}
 use Rattle.ring.proofs.Steps.{steps-self}
 use Rattle.larq.specs.Channel.{Cell, waits, missing, Channel, headMissing, reach}
@@ -14,7 +14,7 @@ use Rattle.larq.specs.Answer.{Outcome}
 use Rattle.larq.specs.Events.{frame, filling, filled, data-on, sideOf, act-on}
 use Rattle.larq.specs.Table.{Table, channels, room, Event, one, outcome}
 use Rattle.larq.proofs.Cases.{accepted-passes}
-use Rattle.larq.proofs.Sound.{Sound, Good, Joined}
+use Rattle.larq.proofs.Sound.{Sound, Good}
 
 -- h goes up first
 abbrev pub UpFirst : {H : Type 0} → H → Outcome H → Type 0

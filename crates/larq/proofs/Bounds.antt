@@ -1,24 +1,24 @@
 -- Bounds: at most as many handles go up, and numbers are asked for, as the window has numbers, and one handle less comes back.
 -- Document 01, 'Numbers the box may answer with', has the bounds 32 and 31 for the two kinds of handles. So a buffer of 32 entries is enough.
-use Prim.Native.Nat.{ℕ, zero, suc, _+_, _-_, _*_, _≤_, _<_}
+use Prim.Native.Nat.{ℕ, zero, suc, _+_, _-_, _≤_, _<_}
 use mathlib.Core.Path.{_≡_, refl, ap, sym, subst, _∙_}
-use mathlib.Core.Bool.{Bool, true, false}
+use mathlib.Core.Bool.{Bool, true}
 use mathlib.Core.Option.{Option, some, none}
 use mathlib.Core.List.{List, [], _∷_, _++_}
 use native.Mathlib.Omega.{arith}
 use borrow.Author.Tests.{leb-true}
-use lib.ListN.{length, take, drop, replicate, length-append, length-replicate, length-drop}
+use lib.ListN.{length, take, replicate, length-append, length-replicate, length-drop}
 use Rattle.ring.specs.Ring.{steps, forward, next, Side, Ahead, Behind, Far}
 use Rattle.ring.proofs.Sides.{Seen, sees}
 use Rattle.ring.proofs.Steps.{length-rising}
 use Rattle.larq.specs.Channel.{Cell, waits, missing, Channel, waiting, headMissing, reach}
-use Rattle.larq.specs.Answer.{Answer, Change, same, holds, freed, Outcome}
+use Rattle.larq.specs.Answer.{Answer, holds, Outcome}
 use Rattle.larq.specs.Events.{Act, frame, reminder, tick, close, after, filling, filled, grown, data-on, reminder-on, sideOf, act-on}
 use Rattle.larq.specs.Table.{Event, done, one, numberInRing}
-use Rattle.larq.specs.Demands.{restarts, filledOr, entered, enteredData, enteredReminder, made, aheadBy}
+use Rattle.larq.specs.Demands.{filledOr, enteredData, enteredReminder}
 use Rattle.larq.proofs.Cases.{Passes, one-case}
 use Rattle.larq.proofs.Orderly.{OnSome}
-use Rattle.larq.proofs.Sound.{Sound, Good, AllGood, Kept, data-good, reminder-good, act-good}
+use Rattle.larq.proofs.Sound.{Good, AllGood, Kept, data-good, reminder-good, act-good}
 use Rattle.larq.proofs.Moved.{Moves, MovesTo, data-moves, reminder-moves, act-moves}
 
 pub record Bounded {H : Type 0} (w : ℕ) (r : Answer H) : Type 0 where

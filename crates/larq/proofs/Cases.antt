@@ -1,14 +1,12 @@
 -- An event at a key, by cases: refused by a number above 0, or every test of the paper's table passes and the event is done. Assumes nothing.
-use Prim.Native.Nat.{ℕ, suc, _≤_}
+use Prim.Native.Nat.{ℕ, suc}
 use mathlib.Core.Path.{_≡_, refl}
 use mathlib.Core.Bool.{Bool, true, _||_}
-use mathlib.Core.List.{List, [], _∷_}
+use mathlib.Core.List.{List}
 use native.Mathlib.Omega.{arith}
-use borrow.Author.Tests.{leb-true}
 use Rattle.wire.proofs.ByCases.{answered-case, answered-good}
 use Rattle.larq.specs.Channel.{Channel, sound}
 use Rattle.larq.specs.Answer.{Outcome, refused}
-use Rattle.larq.specs.Events.{Act, act-on}
 use Rattle.larq.specs.Table.{Event, one, done, refusals, lentEnough, numberInRing, priorityFits, isOpen, isData, ofRecord, notBefore, reminderNear}
 
 -- every test of the table passes

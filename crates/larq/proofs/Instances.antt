@@ -1,26 +1,24 @@
 -- The premises of the theorems can be met, with content: one small run of two channels, and each theorem put to use on it.
 -- A promise whose premises nothing meets would promise nothing.
-use Prim.Native.Nat.{ℕ, suc, _+_, _<_, _≤_}
+use Prim.Native.Nat.{ℕ}
 use mathlib.Core.Path.{_≡_, refl}
-use mathlib.Core.Bool.{Bool, true, false}
-use mathlib.Core.List.{List, [], _∷_, _++_, map}
+use mathlib.Core.Bool.{true}
+use mathlib.Core.List.{List, [], _∷_}
 use native.Mathlib.Omega.{arith}
 use Rattle.ring.specs.Ring.{rising, side, distance}
-use Rattle.larq.specs.Channel.{Cell, waits, missing, Channel, sound, window}
-use Rattle.larq.specs.Answer.{Answer, holds}
+use Rattle.larq.specs.Channel.{waits, missing, Channel, sound, window}
+use Rattle.larq.specs.Answer.{holds}
 use Rattle.larq.specs.Events.{Act, frame, reminder, tick, close, opened, asked, act-on}
-use Rattle.larq.specs.Table.{Key, sameKey, Place, free, held, Table, Lent, Event, channels, one, outcome, step}
+use Rattle.larq.specs.Table.{Key, sameKey, free, held, Table, Lent, Event, one, outcome, step}
 use Rattle.larq.specs.Run.{run, answers, eventsOf, answersTo, empty}
 use Rattle.larq.specs.Demands.{untilClosed, AgreeButFull, entered, made}
-use Rattle.larq.specs.Counts.{Sent, sent, reminded, ticked, closed, Note, eventOf, Rising, allUp}
-use Rattle.larq.specs.Calls.{AcceptedData}
+use Rattle.larq.specs.Counts.{Sent, sent, reminded, Note, allUp}
 use Rattle.larq.proofs.Untouched.{Untouched, untouched}
 use Rattle.larq.proofs.Apart.{apart}
 use Rattle.larq.proofs.Restart.{FarFrame, NotOpen, Restarts, restart}
 use Rattle.larq.proofs.Sound.{Good}
 use Rattle.larq.proofs.Moved.{Moves, moves}
 use Rattle.larq.proofs.Bounds.{Bounded, bounded}
-use Rattle.larq.proofs.Order.{order}
 use Rattle.larq.proofs.AtOnce.{UpFirst, at-once}
 use Rattle.larq.proofs.OwnHandles.{OwnOrder, own-order}
 use Rattle.larq.proofs.Kept.{KeptOnce, kept}

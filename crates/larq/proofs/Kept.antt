@@ -1,7 +1,7 @@
 -- Kept: after any run from the empty table, a handle that was accepted has gone up, or has come back, or still waits, and no two of these.
 -- Document 01, 'The four channel events', last paragraph. Calls are told apart by their index, so equal handles are too.
 use Prim.Native.Nat.{ℕ, zero, suc, _+_, _<_}
-use mathlib.Core.Path.{_≡_, refl, ap, sym, subst, _∙_}
+use mathlib.Core.Path.{_≡_, refl, ap, sym, _∙_}
 use mathlib.Core.Bool.{Bool, true, false, cond}
 use mathlib.Core.List.{List, [], _∷_, _++_, map}
 use native.Mathlib.Omega.{arith}
@@ -9,7 +9,7 @@ use lib.Dec.{eqb}
 use borrow.Author.Tests.{eq-eqb, ne-eqb}
 use Rattle.larq.specs.Answer.{Answer}
 use Rattle.larq.specs.Events.{Act, frame, reminder, tick, close}
-use Rattle.larq.specs.Table.{Table, Event, outcome, step}
+use Rattle.larq.specs.Table.{Event}
 use Rattle.larq.specs.Run.{run, answers, empty}
 use Rattle.larq.specs.Counts.{allUp}
 use Rattle.larq.specs.Calls.{allReturned, waitingIn, indexedAct, indexedEvent, indexed, times, IsData, AcceptedData}

@@ -1,16 +1,16 @@
 -- What an event of one key does to the records of every key: its own change by `afterChange`, the others' stay.
 -- Demand 3, last sentence, for one step. Assumes nothing.
 use Prim.Native.Nat.{ℕ}
-use mathlib.Core.Path.{_≡_, refl, ap, sym, _∙_}
+use mathlib.Core.Path.{_≡_, refl, sym, _∙_}
 use mathlib.Core.Bool.{Bool, true, false, cond, _&&_}
 use mathlib.Core.List.{List, [], _∷_, _++_}
 use lib.Dec.{eqb}
 use borrow.Author.Tests.{eqb-true, eq-eqb}
 use Rattle.larq.specs.Channel.{Channel}
-use Rattle.larq.specs.Answer.{Change, same, holds, freed, Outcome}
+use Rattle.larq.specs.Answer.{Change, same, holds, freed}
 use Rattle.larq.specs.Events.{Act, frame, reminder, tick, close, opened}
 use Rattle.larq.specs.Table.{Key, sameKey, Place, free, held, Table, channels, room, putOpen, putFree, changed, Event, done, one, outcome, step}
-use Rattle.larq.proofs.Cases.{Passes, one-case}
+use Rattle.larq.proofs.Cases.{one-case}
 
 pub sameKey-refl : (k : Key) → sameKey k k ≡ true
 unfolding sameKey

@@ -1,6 +1,6 @@
 -- Lost and nack, event by event: M passes the first numbers of the window as the event made it; what is handed up are the waiting ones of them,
 -- the lost count is that of the missing ones, and what is asked for again lies past them. Demand 2: a lost count from the air is shut out.
-use Prim.Native.Nat.{ℕ, zero, suc, _+_, _-_, _*_, _≤_, _<_}
+use Prim.Native.Nat.{ℕ, zero, suc, _+_, _-_, _≤_, _<_}
 use mathlib.Core.Path.{_≡_, refl, ap, sym, subst, _∙_}
 use mathlib.Core.Bool.{Bool, true, false, not}
 use mathlib.Core.Option.{Option, some, none}
@@ -10,15 +10,15 @@ use lib.ListN.{length, getD, take, drop, length-append, length-replicate}
 use Rattle.ring.specs.Ring.{size, forward, next, steps, rising, Side, Ahead, Behind, Far}
 use Rattle.ring.proofs.Sides.{Seen, sees}
 use Rattle.ring.proofs.Steps.{forward-small, forward-forward, steps-forward, length-rising}
-use Rattle.larq.specs.Channel.{Cell, waits, missing, Channel, waiting, times, reach}
+use Rattle.larq.specs.Channel.{Cell, waits, Channel, waiting, times, reach}
 use Rattle.larq.specs.Settling.{Walked, walk, wide, stale}
-use Rattle.larq.specs.Answer.{Answer, Change, same, holds, freed, Outcome, accepted}
+use Rattle.larq.specs.Answer.{Answer, holds, Outcome, accepted}
 use Rattle.larq.specs.Events.{Act, frame, reminder, tick, close, taken, moved, asked, grown, settledAt, filling, filled, data-on, reminder-on, sideOf, act-on}
 use Rattle.larq.specs.Table.{Event, one, notFar}
 use Rattle.larq.specs.Demands.{restarts, filledOr, enteredData, enteredReminder, entered, aheadBy, made}
-use Rattle.larq.proofs.Cases.{Passes, one-case}
+use Rattle.larq.proofs.Cases.{one-case}
 use Rattle.larq.proofs.Walk.{Passed, walk-passes}
-use Rattle.larq.proofs.Sound.{Sound, Good, Joined}
+use Rattle.larq.proofs.Sound.{Good}
 use Rattle.larq.proofs.Nack.{asked-rising}
 
 -- from the record c, by a window in which the event's numbers stand and k numbers that it made missing, to the record d

@@ -1,19 +1,19 @@
 -- Nack: what is asked for again is a run of rising numbers that this call made missing: none that the same call gave up, and each still missing.
 -- Demand 2; document 01, 'Data', and the fourth slip of an earlier box.
 use Prim.Native.Nat.{ℕ, zero, suc, _+_, _-_, _≤_, _<_}
-use mathlib.Core.Path.{_≡_, refl, ap, sym, subst, _∙_}
-use mathlib.Core.Bool.{Bool, true, false, cond}
-use mathlib.Core.List.{List, [], _∷_, _++_}
+use mathlib.Core.Path.{_≡_, refl, ap, sym, _∙_}
+use mathlib.Core.Bool.{Bool}
+use mathlib.Core.List.{List, _∷_}
 use native.Mathlib.Omega.{arith}
 use native.Mathlib.Decide.{decLt}
-use lib.ListN.{length, getD, drop, replicate, length-append, length-replicate, length-drop}
+use lib.ListN.{length, length-append, length-replicate, length-drop}
 use lib.Dec.{ltb}
 use borrow.Author.Tests.{lt-ltb, le-ltb}
 use Rattle.ring.specs.Ring.{size, forward, next, steps, rising}
 use Rattle.ring.proofs.Steps.{forward-forward, steps-forward}
-use Rattle.larq.specs.Channel.{Cell, waits, missing, Channel}
+use Rattle.larq.specs.Channel.{Cell, Channel}
 use Rattle.larq.specs.Settling.{Walked}
-use Rattle.larq.specs.Events.{those, inWindow, asked, grown}
+use Rattle.larq.specs.Events.{those, asked, grown}
 use Rattle.larq.proofs.Walk.{Passed}
 use Rattle.larq.proofs.Sound.{Joined}
 

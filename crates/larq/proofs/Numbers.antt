@@ -7,7 +7,6 @@ use mathlib.Core.List.{List, [], _∷_, map}
 use lib.ListN.{replicate}
 use Rattle.ring.specs.Ring.{side, distance}
 use Rattle.larq.specs.Channel.{Cell, waits, missing, Channel, sound, window}
-use Rattle.larq.specs.Answer.{Answer}
 use Rattle.larq.specs.Events.{Act, frame, reminder, tick, close, opened, asked, act-on}
 use Rattle.larq.specs.Table.{Key, sameKey, Place, free, held, Table, Lent, Event, one, outcome, step}
 

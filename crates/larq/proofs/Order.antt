@@ -1,10 +1,10 @@
 -- Order: within reach, what a channel hands up rises strictly by the sender's count, so no count goes up twice or out of order.
 -- Demand 3, second half. The channel's numbers are followed by their counts: M has the count n, C the count hi.
-use Prim.Native.Nat.{ℕ, zero, suc, _+_, _-_, _*_, _%_, _≤_, _<_, max}
+use Prim.Native.Nat.{ℕ, zero, suc, _+_, _-_, _%_, _≤_, _<_, max}
 use mathlib.Core.Path.{_≡_, refl, ap, sym, subst, _∙_}
-use mathlib.Core.Bool.{Bool, true, false, cond}
+use mathlib.Core.Bool.{Bool, true, cond}
 use mathlib.Core.Option.{Option, some, none}
-use mathlib.Core.List.{List, [], _∷_, _++_, map, append-nil}
+use mathlib.Core.List.{List, [], _∷_, _++_, map}
 use native.Mathlib.Omega.{arith}
 use native.Mathlib.Decide.{decLt}
 use lib.ListN.{length, take, drop, replicate, length-append, length-replicate, length-drop}
@@ -12,15 +12,15 @@ use lib.Dec.{eqb, eqb·suc-zero}
 use Rattle.ring.specs.Ring.{size, forward, next, steps, seen, Side, Ahead, Behind, Far}
 use Rattle.ring.proofs.Sides.{seen-above, seen-below}
 use Rattle.ring.proofs.Steps.{next-mod, forward-mod, steps-up, steps-down}
-use Rattle.larq.specs.Channel.{Cell, waits, missing, Channel, waiting, sound, reach}
+use Rattle.larq.specs.Channel.{Cell, waits, missing, Channel, waiting, reach}
 use Rattle.larq.specs.Settling.{Walked, walk, wide, stale}
-use Rattle.larq.specs.Answer.{Answer, Change, same, holds, freed, Outcome, refused, accepted}
-use Rattle.larq.specs.Events.{Act, frame, reminder, tick, close, opened, taken, grown, settledAt, after, filling, filled, data-on, reminder-on, sideOf, act-on}
-use Rattle.larq.specs.Table.{Key, Table, channels, Event, notFar, one}
+use Rattle.larq.specs.Answer.{Change, same, holds, freed, Outcome, refused, accepted}
+use Rattle.larq.specs.Events.{opened, taken, grown, settledAt, after, filling, filled, data-on, reminder-on, sideOf, act-on}
+use Rattle.larq.specs.Table.{Key, Table, channels, Event, one}
 use Rattle.larq.specs.Run.{answers, eventsOf, answersTo}
 use Rattle.larq.specs.Demands.{untilClosed}
 use Rattle.larq.specs.Counts.{Sent, sent, reminded, ticked, closed, Note, actOf, eventOf, Near, NearBy, raised, Within, Rising, allUp, numbers}
-use Rattle.larq.proofs.Cases.{Passes, one-case}
+use Rattle.larq.proofs.Cases.{one-case}
 use Rattle.larq.proofs.Untouched.{act-accepts}
 use Rattle.larq.proofs.Walk.{Passed, walk-passes}
 use Rattle.larq.proofs.Orderly.{OnSome}

@@ -2,13 +2,13 @@
 -- and what the box answers is what they answer with the marks taken off. Demand 3, second half.
 use Prim.Native.Nat.{ℕ, suc, _%_, _<_}
 use mathlib.Core.Path.{_≡_, refl, ap, sym, _∙_}
-use mathlib.Core.Bool.{Bool, true, false, cond}
+use mathlib.Core.Bool.{true}
 use mathlib.Core.List.{List, [], _∷_, map}
 use Rattle.ring.specs.Ring.{size}
 use Rattle.larq.specs.Channel.{Channel}
 use Rattle.larq.specs.Answer.{Answer}
 use Rattle.larq.specs.Events.{opened}
-use Rattle.larq.specs.Table.{Key, Place, free, held, Table, channels, Event}
+use Rattle.larq.specs.Table.{Key, held, Table, channels, Event}
 use Rattle.larq.specs.Run.{answers, eventsOf, answersTo}
 use Rattle.larq.specs.Demands.{untilClosed}
 use Rattle.larq.specs.Counts.{Note, eventOf, Within, Rising, allUp, numbers}
@@ -17,7 +17,7 @@ use Rattle.larq.specs.Answer.{Change, same, holds, freed}
 use Rattle.larq.specs.Table.{one, outcome, step}
 use Rattle.larq.proofs.Keys.{sameKey-refl}
 use Rattle.larq.proofs.Restart.{onward, until, from-record}
-use Rattle.larq.proofs.Renamed.{on-channel, on-change, on-outcome, on-answer, on-event, one-renamed}
+use Rattle.larq.proofs.Renamed.{on-channel, on-change, on-answer, on-event, one-renamed}
 
 -- what a record decides, with every handle renamed
 until-renamed : {A B : Type 0} (f : A → B) (w : ℕ) (c : Channel A) (es : List (Event A)) → until w (on-channel f c) (map (on-event f) es) ≡ map (on-answer f) (until w c es)

@@ -10,7 +10,7 @@ use lib.Dec.{ltb}
 use Rattle.wire.specs.Refusals.{Refusal, answered}
 use Rattle.ring.specs.Ring.{next, steps, rising, Side, Ahead, Behind, Far}
 use Rattle.larq.specs.Channel.{Cell, waits, missing, Channel, waiting, times, headMissing, sound}
-use Rattle.larq.specs.Settling.{Walked, walk, wide, stale, stays, handing, losing}
+use Rattle.larq.specs.Settling.{Walked, walk, wide, stale, stays, losing}
 use Rattle.larq.specs.Answer.{Answer, Change, same, holds, freed, Outcome, refused}
 use Rattle.larq.specs.Events.{Act, frame, reminder, tick, close, those, asked, grown, settledAt, ahead, after, filling, filled, data-on, reminder-on, sideOf, act-on}
 use Rattle.larq.specs.Table.{Key, sameKey, Place, free, held, Table, channels, room, putOpen, putFree, changed, Event, refusals, done, one, outcome, step}

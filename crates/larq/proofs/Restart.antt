@@ -1,6 +1,6 @@
 -- Restart: a far frame restarts its channel, which from then on answers as one just opened by it, until it is closed.
 -- Demand 3, first half. The other box is any in which this very frame has just opened the channel.
-use Prim.Native.Nat.{ℕ, suc}
+use Prim.Native.Nat.{ℕ}
 use mathlib.Core.Path.{_≡_, refl, ap, sym, _∙_}
 use mathlib.Core.Bool.{Bool, true, false, cond, _&&_, and-false}
 use mathlib.Core.List.{List, [], _∷_, map}
@@ -8,9 +8,9 @@ use mathlib.Core.Option.{Option, some, none}
 use lib.Dec.{eqb, eqb·suc-zero}
 use Rattle.ring.specs.Ring.{steps, Side, Ahead, Behind, Far}
 use Rattle.larq.specs.Channel.{Cell, Channel, waiting}
-use Rattle.larq.specs.Answer.{Answer, Change, same, holds, freed, Outcome, refused, accepted}
+use Rattle.larq.specs.Answer.{Answer, Change, same, holds, freed, Outcome, accepted}
 use Rattle.larq.specs.Events.{Act, frame, reminder, tick, close, opened, sideOf, restarted, data-on, reminder-on, filled, filling, act-on}
-use Rattle.larq.specs.Table.{Key, Table, channels, room, Event, done, one, outcome, step}
+use Rattle.larq.specs.Table.{Key, Table, channels, room, Event, one, outcome, step}
 use Rattle.larq.specs.Run.{answers, eventsOf, answersTo}
 use Rattle.larq.specs.Demands.{isClose, untilClosed}
 use Rattle.larq.proofs.Cases.{Passes, one-case, one-passes, accepted-passes}

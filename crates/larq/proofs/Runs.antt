@@ -2,13 +2,13 @@
 -- Demand 2: whose rules does the box follow? Handles are numbers here; a case's frames carry 1, 2, 3 in the order of its calls.
 use Prim.Native.Nat.{ℕ}
 use mathlib.Core.Path.{_≡_, refl}
-use mathlib.Core.Bool.{Bool, true}
+use mathlib.Core.Bool.{true}
 use mathlib.Core.List.{List, [], _∷_, map}
 use Rattle.ring.specs.Ring.{rising, side, distance}
-use Rattle.larq.specs.Channel.{Channel, sound, window}
+use Rattle.larq.specs.Channel.{sound, window}
 use Rattle.larq.specs.Answer.{Answer}
-use Rattle.larq.specs.Events.{Act, frame, reminder, tick, close, opened, asked, act-on}
-use Rattle.larq.specs.Table.{Key, sameKey, Place, free, held, Table, Lent, Event, one, outcome, step}
+use Rattle.larq.specs.Events.{Act, frame, reminder, tick, opened, asked, act-on}
+use Rattle.larq.specs.Table.{Key, sameKey, free, held, Table, Lent, Event, one, outcome, step}
 use Rattle.larq.specs.Run.{run, answers}
 
 abbrev key : Key

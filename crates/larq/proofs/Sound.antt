@@ -1,15 +1,15 @@
 -- Sound: from the empty table no record is ever broken, its cells are as many as its span says, and no key stands twice.
 -- Demand 1 and document 01, 'The channel table': number 6 is for tables that were not made by the box. For any window below 1,024.
-use Prim.Native.Nat.{ℕ, zero, suc, _+_, _-_, _*_, _%_, _≤_, _<_}
+use Prim.Native.Nat.{ℕ, _+_, _-_, _≤_, _<_}
 use mathlib.Core.Path.{_≡_, refl, ap, sym, subst, _∙_}
-use mathlib.Core.Bool.{Bool, true, false, cond, _&&_}
+use mathlib.Core.Bool.{Bool, true, false}
 use mathlib.Core.Option.{Option, some, none}
 use mathlib.Core.List.{List, [], _∷_, _++_, append-nil}
 use native.Mathlib.Omega.{arith}
-use lib.ListN.{length, drop, replicate, length-append, length-replicate, length-drop}
-use lib.Dec.{ltb, leb}
+use lib.ListN.{length, replicate, length-append, length-replicate, length-drop}
+use lib.Dec.{leb}
 use borrow.Author.Tests.{leb-true, le-leb, ltb-false}
-use Rattle.ring.specs.Ring.{size, forward, next, steps, seen, Side, Ahead, Behind, Far}
+use Rattle.ring.specs.Ring.{forward, next, steps, Side, Ahead, Behind, Far}
 use Rattle.ring.proofs.Sides.{Seen, sees}
 use Rattle.ring.proofs.Steps.{forward-forward, forward-steps}
 use Rattle.larq.specs.Channel.{Cell, waits, missing, Channel, times, headMissing, orderly, sound, span, reach}

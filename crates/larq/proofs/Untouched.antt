@@ -1,6 +1,6 @@
 -- Untouched: a refusal gives its number with empty lists and no lost number, and leaves the table as it was; an event that no number refuses is
 -- accepted. Demand 1.
-use Prim.Native.Nat.{ℕ, suc}
+use Prim.Native.Nat.{ℕ}
 use mathlib.Core.Path.{_≡_, refl, ap, _∙_}
 use mathlib.Core.Bool.{Bool, true}
 use mathlib.Core.Option.{Option, some, none}

@@ -1,6 +1,6 @@
 -- What a walk of M comes to, whatever gives a missing number up: M passes the first numbers of the window; the waiting ones of them
 -- are handed up in order, the missing ones are counted lost, and the rest is left as it was. Assumes nothing.
-use Prim.Native.Nat.{ℕ, zero, suc, _+_, _%_, _≤_, _<_}
+use Prim.Native.Nat.{ℕ, suc, _≤_, _<_}
 use mathlib.Core.Path.{_≡_, refl, ap, _∙_}
 use mathlib.Core.Bool.{Bool, true, false, cond}
 use mathlib.Core.List.{List, [], _∷_}
@@ -8,7 +8,7 @@ use native.Mathlib.Omega.{arith}
 use lib.ListN.{length, take, drop}
 use Rattle.wire.proofs.ByCases.{cond-case}
 use Rattle.ring.specs.Ring.{size, forward, next}
-use Rattle.larq.specs.Channel.{Cell, waits, missing, waiting, times, headMissing, orderly}
+use Rattle.larq.specs.Channel.{Cell, waits, missing, waiting, times, headMissing}
 use Rattle.larq.specs.Settling.{Walked, walk, stays, handing, losing}
 
 -- M passes `by` numbers of a window that starts at m

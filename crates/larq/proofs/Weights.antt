@@ -1,7 +1,7 @@
 -- Weights: whatever handles weigh, each call's accepted handle and the waiting ones before it weigh as much as those handed up, returned and
 -- waiting after it. Any weight at all makes this a count of each single handle. Assumes nothing.
 use Prim.Native.Nat.{ℕ, zero, suc, _+_, _-_}
-use mathlib.Core.Path.{_≡_, refl, ap, sym, _∙_}
+use mathlib.Core.Path.{_≡_, refl, ap}
 use mathlib.Core.Bool.{Bool, true, false, cond}
 use mathlib.Core.Option.{Option, some, none}
 use mathlib.Core.List.{List, [], _∷_, _++_}
@@ -15,10 +15,10 @@ use Rattle.larq.specs.Settling.{Walked, walk, wide, stale, stays, losing
 use Rattle.larq.specs.Answer.{Answer, Change, same, holds, freed, Outcome, refused}
 use Rattle.larq.specs.Events.{Act, frame, reminder, tick, close, opened, grown, ahead, after, filling, filled, data-on, reminder-on, sideOf, act-on}
 use Rattle.larq.specs.Table.{Key, sameKey, Place, free, held, Table, channels, room, putOpen, putFree, changed, Event, done, one, outcome, step}
-use Rattle.larq.specs.Run.{run, answers, empty}
+use Rattle.larq.specs.Run.{run, answers}
 use Rattle.larq.specs.Counts.{allUp}
 use Rattle.larq.specs.Calls.{allReturned, waitingAt, waitingIn}
-use Rattle.larq.proofs.Cases.{Passes, one-case}
+use Rattle.larq.proofs.Cases.{one-case}
 use Rattle.larq.proofs.Orderly.{OnSome}
 
 -- the handle that a call leaves with the box, if it is accepted

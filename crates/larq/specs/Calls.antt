@@ -2,7 +2,7 @@
 -- exactly one of handed up, returned, or waiting ('The four channel events', last paragraph).
 use Prim.Native.Nat.{ℕ, zero, suc, _+_}
 use mathlib.Core.Path.{_≡_}
-use mathlib.Core.Bool.{Bool, cond}
+use mathlib.Core.Bool.{cond}
 use mathlib.Core.List.{List, [], _∷_, _++_}
 use lib.Dec.{eqb}
 use Rattle.larq.specs.Channel.{waiting}

@@ -1,7 +1,7 @@
 -- The sender's own count, which never wraps: the words in which demand 3 speaks of order. A frame's ring number is its count modulo 4,096.
 use Prim.Native.Nat.{ℕ, suc, _+_, _%_, _≤_, max}
 use mathlib.Core.Path.{_≡_}
-use mathlib.Core.Bool.{Bool, cond}
+use mathlib.Core.Bool.{cond}
 use mathlib.Core.List.{List, [], _∷_, _++_}
 use lib.Dec.{eqb}
 use Rattle.ring.specs.Ring.{size}

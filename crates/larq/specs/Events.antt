@@ -9,7 +9,7 @@ use lib.Dec.{ltb}
 use Rattle.ring.specs.Ring.{next, steps, rising, seen, Side, Ahead, Behind, Far}
 use Rattle.larq.specs.Channel.{Cell, waits, missing, Channel, waiting, reach}
 use Rattle.larq.specs.Settling.{Walked, walk, wide, stale}
-use Rattle.larq.specs.Answer.{Change, holds, freed, Outcome, accepted}
+use Rattle.larq.specs.Answer.{holds, freed, Outcome, accepted}
 
 -- what the host tells: a data frame with its number and handle, a reminder with its number, a tick, a close
 pub data Act (H : Type 0) : Type 0 where

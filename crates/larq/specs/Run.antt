@@ -4,7 +4,7 @@ use mathlib.Core.Bool.{cond}
 use mathlib.Core.List.{List, [], _∷_}
 use lib.ListN.{replicate}
 use Rattle.larq.specs.Answer.{Answer}
-use Rattle.larq.specs.Table.{Key, sameKey, Place, free, Table, Event, outcome, step}
+use Rattle.larq.specs.Table.{Key, sameKey, free, Table, Event, outcome, step}
 
 -- 64 free places
 abbrev pub empty : {H : Type 0} → Table H

@@ -2,15 +2,15 @@
 -- Document 01, 'The channel table': when a record is broken. Assumes nothing.
 use Prim.Native.Nat.{ℕ, _+_, _-_, _%_, _≤_, _<_}
 use mathlib.Core.Path.{_≡_, refl, ap, sym, _∙_}
-use mathlib.Core.Bool.{Bool, true, false, cond, _&&_}
+use mathlib.Core.Bool.{Bool, true, false, _&&_}
 use mathlib.Core.List.{List, [], _∷_}
 use native.Mathlib.Omega.{arith}
 use lib.Dec.{leb}
-use lib.ListN.{length, getD}
+use lib.ListN.{getD}
 use borrow.Author.Tests.{le-leb, lt-leb, leb-true}
 use Rattle.ring.specs.Ring.{next}
 use Rattle.larq.specs.Channel.{times, orderly}
-use Rattle.record.specs.Place.{window, cellAt}
+use Rattle.record.specs.Place.{cellAt}
 use Rattle.record.specs.Judge.{timesOf}
 use Rattle.record.proofs.Windows.{window-none, window-suc, cell-waits, cell-missing}
 

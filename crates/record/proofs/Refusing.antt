@@ -1,21 +1,21 @@
 -- The numbers in their order: which number the code gives is the first of the rules' tests that fails. Document 01, 'Numbers the box may
 -- answer with'. Assumes nothing.
 use Prim.Native.Nat.{ℕ, _≤_, _<_}
-use mathlib.Core.Path.{_≡_, refl, ap, sym, _∙_}
-use mathlib.Core.Bool.{Bool, true, false, cond, _&&_}
-use mathlib.Core.List.{List, [], _∷_}
+use mathlib.Core.Path.{_≡_, sym, _∙_}
+use mathlib.Core.Bool.{true, false, _&&_}
+use mathlib.Core.List.{List, []}
 use native.Mathlib.Omega.{arith}
-use lib.Dec.{eqb, leb}
+use lib.Dec.{leb}
 use lib.ListN.{length, getD}
-use borrow.Author.Tests.{le-leb, lt-leb, eqb-true, leb-true}
-use Rattle.wire.specs.Refusals.{Refusal, first}
+use borrow.Author.Tests.{le-leb, lt-leb, leb-true}
+use Rattle.wire.specs.Refusals.{Refusal}
 use Rattle.larq.specs.Channel.{window, sound}
 use Rattle.larq.specs.Table.{Lent, lentEnough}
-use Rattle.record.specs.Place.{recordWith, recordOf, soundAt, placeSized}
+use Rattle.record.specs.Place.{recordWith, recordOf, soundAt}
 use Rattle.record.specs.Judge.{lentOf, common, RefusedBy, OpenAt}
 use Rattle.record.specs.declared.Record.{Record}
 use Rattle.wire.proofs.Joined.{and-left, and-right}
-use Rattle.record.proofs.Sounds.{place-sizes, sizes-of, sound-by-sizes, sound-ring-of}
+use Rattle.record.proofs.Sounds.{place-sizes, sound-by-sizes}
 
 -- what number 1 asks
 pub record Enough (words handles marks up returned nack : ℕ) : Type 0 where

@@ -1,7 +1,7 @@
 -- Ring arithmetic of a window: numbers so many steps past another, their slots, and the span when C or M moves. Slots are numbers modulo 32,
 -- which divides the ring's size. Assumes nothing.
 use Prim.Native.Nat.{ℕ, suc, _+_, _-_, _%_, _≤_, _<_}
-use mathlib.Core.Path.{_≡_, ap, ap₂, sym, _∙_}
+use mathlib.Core.Path.{_≡_, ap, sym, _∙_}
 use native.Mathlib.Omega.{arith}
 use Rattle.ring.specs.Ring.{size, forward, next, steps}
 use Rattle.ring.proofs.Steps.{forward-small, forward-forward, steps-forward, forward-steps}

@@ -1,6 +1,6 @@
 -- The turns of the loop in which M moves on: what M's walk makes of the rest is what it made of the whole. Document 01, 'Settling' and 'Tick'.
 -- Assumes nothing.
-use Prim.Native.Nat.{ℕ, suc, _+_, _-_, _%_, _≤_, _<_}
+use Prim.Native.Nat.{ℕ, _+_, _-_, _%_, _≤_, _<_}
 use mathlib.Core.Path.{_≡_, refl, ap, sym, _∙_}
 use mathlib.Core.Bool.{Bool, true, false, cond}
 use mathlib.Core.List.{List, [], _∷_}
@@ -11,7 +11,7 @@ use lib.Seq.{sets}
 use borrow.Author.Tests.{lt-ltb, le-ltb, eq-eqb}
 use Rattle.ring.specs.Ring.{next}
 use Rattle.larq.specs.Channel.{Cell, missing}
-use Rattle.larq.specs.Settling.{Walked, walk, stays, handing, losing}
+use Rattle.larq.specs.Settling.{walk, stays, handing, losing}
 use Rattle.record.specs.Place.{window, cellAt, placeSized}
 use Rattle.record.specs.Walk.{earlier, passes, walkFrom, Settles, most, settleNumbers}
 use Rattle.record.specs.Buffers.{Laid}

@@ -1,7 +1,7 @@
 -- When the record of a place is not broken, by its parts: document 01, 'The channel table'. Assumes nothing.
 use Prim.Native.Nat.{ℕ, zero, suc, _+_, _-_, _%_, _≤_, _<_}
-use mathlib.Core.Path.{_≡_, refl, ap, ap₂, sym, _∙_}
-use mathlib.Core.Bool.{Bool, true, false, cond, _&&_, false≢true}
+use mathlib.Core.Path.{_≡_, refl, ap, sym, _∙_}
+use mathlib.Core.Bool.{Bool, true, false, cond, _&&_}
 use mathlib.Core.List.{List, [], _∷_}
 use native.Mathlib.Omega.{arith}
 use lib.Dec.{eqb, leb}
@@ -9,7 +9,7 @@ use lib.ListN.{length, getD}
 use borrow.Author.Tests.{le-leb, lt-leb, leb-true, eq-eqb, eqb-true}
 use Rattle.wire.proofs.Joined.{and-left, and-right}
 use Rattle.ring.specs.Ring.{next}
-use Rattle.larq.specs.Channel.{Cell, waits, missing, headMissing, times, orderly, sound}
+use Rattle.larq.specs.Channel.{waits, missing, headMissing, times, orderly, sound}
 use Rattle.larq.specs.Channel as channel
 use Rattle.record.specs.Place.{window, cellAt, spanOf, recordWith, recordOf, soundAt, placeSized}
 use Rattle.record.specs.Judge.{timesOf}

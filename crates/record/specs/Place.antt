@@ -1,7 +1,6 @@
 -- What the lent parts of one place mean: 35 words (C, M, the latest time, and the times of missing numbers), 32 handles and 32 marks.
 -- Number n has slot n mod 32: 32 divides 4,096, so the ring's wrap needs no care, and moving M shifts nothing.
 use Prim.Native.Nat.{ℕ, zero, suc, _+_, _%_}
-use mathlib.Core.Path.{_≡_}
 use mathlib.Core.Bool.{Bool, cond, _&&_}
 use mathlib.Core.List.{List, [], _∷_}
 use lib.ListN.{length, getD}

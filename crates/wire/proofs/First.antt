@@ -1,12 +1,12 @@
 -- Laws of refusals in their order, for any list of tests: a test that passes is left behind, and the first that fails decides.
 -- Assumes nothing.
-use mathlib.Core.Path.{_≡_, refl, _∙_}
-use mathlib.Core.Bool.{Bool, true, false}
+use mathlib.Core.Path.{_≡_, _∙_}
+use mathlib.Core.Bool.{true, false}
 use mathlib.Core.List.{List, [], _∷_}
 use Prim.Native.Nat.{ℕ, zero, suc, _<_}
 use native.Mathlib.Nat.{le-of-suc-le-suc, not-suc-le-zero}
 use lib.ListN.{length, getD, drop}
-use Rattle.wire.specs.Refusals.{Refusal, first, answered, _else_}
+use Rattle.wire.specs.Refusals.{Refusal, first, _else_}
 
 -- the k-th test of a list
 abbrev pub test : List Refusal → ℕ → Refusal

@@ -1,5 +1,5 @@
 -- `Record::settled` meets its contract. The loop keeps: what M's walk makes of the rest is what it made of the whole (Settling, `Settles-on`).
-use mathlib.Core.Path.{_≡_, refl, ap, sym, _∙_}
+use mathlib.Core.Path.{_≡_, refl, _∙_}
 use mathlib.Core.Logic.{⊎-elim}
 use native.Mathlib.Omega.{arith}
 use Rattle.record.proofs.Settling.{Settles-on, settles-start, settles, rests-none, rests-missing, passes-waits, passes-missing}

@@ -1,5 +1,4 @@
 -- `in_order` meets its contract. The loop keeps: whether the rest is in order from here is whether the whole is (Ordering, `Looks`).
-use mathlib.Core.Path.{refl}
 use mathlib.Core.Logic.{⊎-elim}
 use native.Mathlib.Omega.{arith}
 use Rattle.record.proofs.Ordering.{Looks, looks-start, looks-end, looks-falls, looks-missing, looks-waits}

@@ -1,5 +1,4 @@
 -- `miss` meets its contract. The loop keeps: what is still to be put from here is what was to be put from the start (Stamping, `Misses`).
-use mathlib.Core.Path.{refl}
 use native.Mathlib.Omega.{arith}
 use borrow.Author.Needs.{needs}
 use Rattle.record.proofs.Stamping.{Misses, misses-end, misses-turn}
