@@ -17,7 +17,7 @@ use Rattle.channel.specs.Call.{Buffers, Parts, buffers, Answered, Became
 use Rattle.channel.specs.Steps.{lentAt}
 use Rattle.channel.specs.declared.Answer.{Answer}
 use Rattle.record.specs.declared.Record.{Record}
-use Rattle.record.proofs.Sounds.{sound-handles}
+use Rattle.judging.proofs.Sounds.{sound-handles}
 use Rattle.record.proofs.Laying.{wrote-idle}
 use Rattle.channel.proofs.Opening.{Stopped, Opened, passes}
 

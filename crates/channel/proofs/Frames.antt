@@ -14,7 +14,7 @@ use Rattle.record.specs.Place.{window, cellAt, spanOf, recordWith}
 use Rattle.channel.specs.Call.{Parts, Buffers, parts, buffers, Says, Did, Called}
 use Rattle.record.specs.Moving.{recordIn, spanIn, headed}
 use Rattle.channel.specs.Steps.{Ready, answerOf, filledAt, dataAt}
-use Rattle.record.specs.Judge.{NextAt, MissingAt, KnownAt}
+use Rattle.judging.specs.Judge.{NextAt, MissingAt, KnownAt}
 use Rattle.channel.specs.declared.Answer.{Answer}
 use Rattle.record.specs.declared.step.Counts.{Counts}
 use Rattle.record.specs.declared.Record.{Record}

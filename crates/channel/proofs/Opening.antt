@@ -18,14 +18,14 @@ use Rattle.record.specs.Place.{window, cellAt, spanOf, recordOf}
 use Rattle.channel.specs.Call.{Parts, Buffers}
 use Rattle.record.specs.Moving.{recordIn, spanIn}
 use Rattle.channel.specs.Steps.{Ready, lentAt, testsAt, IsAhead, Waits, Missing}
-use Rattle.record.specs.Judge.{Judges, RefusedBy, OpenAt, inRing, inShape}
+use Rattle.judging.specs.Judge.{Judges, RefusedBy, OpenAt, inRing, inShape}
 use Rattle.record.specs.declared.Record.{Record}
-use Rattle.record.specs.declared.judging.Judged.{Judged}
-use Rattle.record.specs.declared.judging.Judged.the-variants.{Refused, Open}
+use Rattle.judging.specs.declared.Judged.{Judged}
+use Rattle.judging.specs.declared.Judged.the-variants.{Refused, Open}
 use Rattle.record.proofs.Windows.{length-window, window-suc, cell-waits}
 use Rattle.wire.proofs.Joined.{and-left, and-right}
-use Rattle.record.proofs.Sounds.{ring-of, sound-is}
-use Rattle.record.proofs.Refusing.{Enough, enough-of}
+use Rattle.judging.proofs.Sounds.{ring-of, sound-is}
+use Rattle.record.proofs.Sizes.{Enough, enough-of}
 
 -- no number of the four is given: all four tests pass
 all-pass : (a b c d : Bool) → first ((a else 1) ∷ ((b else 2) ∷ ((c else 6) ∷ ((d else 7) ∷ [])))) ≡ 0

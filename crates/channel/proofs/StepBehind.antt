@@ -19,7 +19,7 @@ use Rattle.record.specs.Walk.{earlier}
 use Rattle.record.specs.Moving.{recordIn, spanIn}
 use Rattle.record.specs.Step.{nothing}
 use Rattle.channel.specs.Steps.{Ready, Roomy, walkOf, Finished, answerOf, filledAt}
-use Rattle.record.specs.Judge.{MissingAt, KnownAt}
+use Rattle.judging.specs.Judge.{MissingAt, KnownAt}
 use Rattle.record.specs.declared.step.Counts.{Counts}
 use Rattle.record.specs.declared.Record.{Record}
 use Rattle.record.proofs.Rounds.{slot-steps}

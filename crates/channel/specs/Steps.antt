@@ -15,7 +15,8 @@ use Rattle.larq.specs.Table.{Lent, notFar}
 use Rattle.record.specs.Place.{recordOf}
 use Rattle.record.specs.Buffers.{Laid}
 use Rattle.record.specs.Moving.{recordIn, spanIn}
-use Rattle.record.specs.Judge.{lentOf, common}
+use Rattle.record.specs.Place.{lentOf}
+use Rattle.judging.specs.Judge.{common}
 use Rattle.record.specs.declared.Record.{Record}
 use Rattle.record.specs.Walk.{passes, walkFrom}
 use Rattle.channel.specs.Call.{Parts, Buffers}

@@ -9,7 +9,7 @@ ghost use Rattle.larq.specs.Events.{ahead, restarted};
 ghost use Rattle.channel.specs.Call.{Did, Says, parts, buffers};
 ghost use Rattle.record.specs.Moving.{recordIn, headed};
 ghost use Rattle.channel.specs.Steps.{Sized, Ready, Roomy, Finished, answerOf, Waits, IsAhead, filledAt};
-ghost use Rattle.record.specs.Judge.{MissingAt};
+ghost use Rattle.judging.specs.Judge.{MissingAt};
 use crate::Answer;
 use record::Counts;
 use record::NEVER;

@@ -15,11 +15,12 @@ use crate::act::filled;
 use crate::act::handed_up;
 use crate::act::restarted;
 use crate::act::sent_back;
+use judging::Judged;
+use judging::Spot;
+use judging::judge;
+use judging::spot_of;
 use record::Counts;
-use record::Judged;
 use record::Record;
-use record::Spot;
-use record::judge;
 use ring::Seq;
 
 // What a call answers: the number, how many entries of each buffer it wrote, and how many numbers it gave up.
@@ -123,7 +124,7 @@ fn arrive(
         (buffers (now (up .entry)) (now (returned .entry)) (now (nack .entry)))
         (buffers (now (up .exit)) (now (returned .exit)) (now (nack .exit))) a ⌝ }
 {
-    match r.spot(marks, s) {
+    match spot_of(r, marks, s) {
         Spot::Ahead(d) => accepted(ahead(
             r,
             words,

@@ -1,9 +1,6 @@
 pub mod Rounds
 pub mod Windows
-pub mod Ordering
-pub mod Sounds
-pub mod Refusing
-pub mod Spots
+pub mod Sizes
 pub mod Appending
 pub mod Laying
 pub mod Walks

@@ -19,7 +19,7 @@ use Rattle.record.specs.declared.Record.{Record}
 use Rattle.record.specs.declared.window.Settled.{Settled}
 use Rattle.record.proofs.Windows.{window-none, window-suc, cell-waits, cell-missing}
 use Rattle.record.proofs.Laying.{sets-more}
-use Rattle.record.proofs.Sounds.{place-sizes}
+use Rattle.record.proofs.Sizes.{place-sizes}
 use Rattle.record.proofs.Walks.{walk-first}
 
 -- Over how many numbers M walks, by what the code finds.

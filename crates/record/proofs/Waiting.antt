@@ -15,7 +15,7 @@ use Rattle.record.specs.Place.{window, cellAt, placeSized}
 use Rattle.record.specs.Walk.{waitingOf, handNumbers}
 use Rattle.record.specs.Buffers.{Laid}
 use Rattle.record.proofs.Windows.{window-none, window-suc, length-window, cell-waits, cell-missing}
-use Rattle.record.proofs.Sounds.{place-sizes}
+use Rattle.record.proofs.Sizes.{place-sizes}
 use Rattle.record.proofs.Walks.{waiting-few}
 use Rattle.record.proofs.Laying.{sets-more}
 

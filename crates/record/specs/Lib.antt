@@ -1,6 +1,5 @@
 pub mod Place
 pub mod Buffers
 pub mod Moving
-pub mod Judge
 pub mod Walk
 pub mod Step

@@ -7,6 +7,7 @@ use lib.ListN.{length, getD}
 use lib.Dec.{eqb}
 use Rattle.ring.specs.Ring.{next, steps}
 use Rattle.larq.specs.Channel.{Cell, waits, missing, Channel, sound}
+use Rattle.larq.specs.Table.{Lent}
 
 -- a slot: mark 0 is missing, any other waits
 abbrev pub cellAt : List ℕ → List ℕ → List ℕ → ℕ → Cell ℕ
@@ -32,6 +33,11 @@ recordOf words handles marks = recordWith (getD words 0 0) (getD words 1 0) (get
 -- the parts of a place are as long as they should be
 abbrev pub placeSized : ℕ → ℕ → ℕ → Bool
 placeSized words handles marks = eqb words 35 && (eqb handles 32 && eqb marks 32)
+
+-- what is lent for a call, by its lengths
+abbrev pub lentOf : ℕ → ℕ → ℕ → ℕ → ℕ → ℕ → Lent
+lentOf words handles marks up returned nack =
+    record { up = up; returned = returned; nack = nack; whole = placeSized words handles marks }
 
 -- a place's record is not broken; the handles have no part in it
 abbrev pub soundAt : List ℕ → List ℕ → Bool

@@ -10,7 +10,7 @@ use Rattle.ring.specs.Ring.{steps, next, rising}
 use Rattle.larq.specs.Channel.{window}
 use Rattle.larq.specs.Table.{Lent, lentEnough}
 use Rattle.record.specs.Buffers.{Laid}
-use Rattle.record.specs.Judge.{lentOf}
+use Rattle.record.specs.Place.{lentOf}
 use Rattle.record.specs.Moving.{spanIn, IsGrown}
 use Rattle.record.specs.Walk.{waitingOf}
 use Rattle.record.specs.declared.Record.{Record}

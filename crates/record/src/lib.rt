@@ -1,20 +1,17 @@
 // A channel's record by value: C, M and the latest time. Its cells stay in the lent parts (document 01, 'The channel table').
-// What becomes of its window is said here; what is decided of an event, in judging.rt; the step ahead, in step.rt; the other
-// loops over a window's slots, in window.rt.
+// What becomes of its window is said here; the step ahead, in step.rt; the other loops over a window's slots, in window.rt. What is
+// decided of an event is judging's.
 ghost use mathlib.Core.Path.{_≡_};
 ghost use Prim.Native.Nat.{_-_, _%_};
 ghost use Rattle.ring.specs.Ring.{forward, next};
-ghost use Rattle.record.specs.Place.{spanOf, placeSized};
+ghost use Rattle.larq.specs.Channel.{window};
+ghost use Rattle.larq.specs.Table.{lentEnough};
+ghost use Rattle.record.specs.Place.{spanOf, placeSized, lentOf};
 ghost use Rattle.record.specs.Moving.{IsGrown, storedIn};
 
-mod judging;
 mod step;
 mod window;
 
-pub use judging::Judged;
-pub use judging::Spot;
-pub use judging::is_sound;
-pub use judging::judge;
 use larq::WINDOW;
 use ring::Seq;
 pub use step::Counts;
@@ -56,6 +53,21 @@ pub(crate) fn is_whole(words: usize, handles: usize, marks: usize) -> bool
     ensures { λ r. ⌜ r ≡ placeSized words handles marks ⌝ }
 {
     (words == WORDS) & ((handles == SLOTS) & (marks == SLOTS))
+}
+
+// Whether the parts and the buffers are as long as they should be: number 1.
+pub fn lent_enough(
+    words: usize,
+    handles: usize,
+    marks: usize,
+    up: usize,
+    returned: usize,
+    nack: usize,
+) -> bool
+    ensures { λ r. ⌜ r ≡ lentEnough window (lentOf words handles marks up returned nack) ⌝ }
+{
+    let room = WINDOW as usize;
+    ((room <= up) & ((room <= returned) & (room <= nack))) & is_whole(words, handles, marks)
 }
 
 // By how much a exceeds b, or 0.

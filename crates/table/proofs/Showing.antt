@@ -13,8 +13,8 @@ use Rattle.record.specs.Place.{cellAt, spanOf, recordWith, recordOf, soundAt}
 use Rattle.record.specs.Place as place
 use Rattle.record.specs.Buffers.{Laid}
 use Rattle.record.proofs.Laying.{wrote-front}
-use Rattle.record.proofs.Sounds.{sound-handles}
-use Rattle.record.proofs.Sounds.{sound-by-sizes}
+use Rattle.judging.proofs.Sounds.{sound-handles}
+use Rattle.judging.proofs.Sounds.{sound-by-sizes}
 use Rattle.record.proofs.Windows.{length-window}
 use Rattle.table.specs.Look.{shownAt, cellMark, cellValue, Looked}
 use Rattle.table.specs.declared.looking.View.{View}

@@ -103,7 +103,7 @@ fn look_at(
     ensures { λ r. ⌜ Looked (shownAt (recordOf (now (words .entry)) (now (handles .entry)) (now (marks .entry))))
         (now (waits .entry)) (now (waits .exit)) (now (values .entry)) (now (values .exit)) r ⌝ }
 {
-    if !record::is_sound(words, marks) {
+    if !judging::is_sound(words, marks) {
         return refuses(6);
     }
     let current = words[0] as u16;

@@ -16,9 +16,9 @@ use crate::act::told;
 use channel::Answer;
 use channel::accepted;
 use channel::refused;
-use record::Judged;
+use judging::Judged;
+use judging::judge;
 use record::Record;
-use record::judge;
 use ring::Seq;
 
 // A reminder that no common number refuses: it tells of numbers ahead, changes only the latest time, or is from far.

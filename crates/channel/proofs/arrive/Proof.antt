@@ -1,9 +1,9 @@
 -- `arrive` meets its contract: by where the number lies (Frames).
 use mathlib.Core.Path.{_≡_, subst}
 use native.Mathlib.Omega.{arith}
-use Rattle.record.specs.Judge.{LiesAt}
-use Rattle.record.specs.declared.judging.Spot.{Spot}
-use Rattle.record.specs.declared.judging.Spot.the-variants.{Next, Missing, Known, Far}
+use Rattle.judging.specs.Judge.{LiesAt}
+use Rattle.judging.specs.declared.Spot.{Spot}
+use Rattle.judging.specs.declared.Spot.the-variants.{Next, Missing, Known, Far}
 use Rattle.channel.proofs.Opening.{ahead-some, ahead-frame}
 use Rattle.channel.proofs.Frames.{frame-next, frame-ahead, frame-missing, frame-known, frame-far}
 use borrow.Author.Needs.{needs}
@@ -16,18 +16,18 @@ use Rattle.channel.proofs.act.filled.Reads as filled-reads
 use Rattle.channel.proofs.act.handed_up.Reads as handed-up-reads
 use Rattle.channel.proofs.act.restarted.Reads as restarted-reads
 use Rattle.channel.proofs.act.sent_back.Reads as sent-back-reads
-use Rattle.record.proofs.Record.spot.Reads as spot-reads
+use Rattle.judging.proofs.spot_of.Reads as spot-of-reads
 
 -- from where the number was looked up back to the entry
-abbrev at-entry : tie.After-spot → tie.Start
+abbrev at-entry : tie.After-spot-of → tie.Start
 at-entry c = c .before .before .before .before .before .before .before .before
 
-lies : (c : tie.After-spot) (x : Spot) → c .spot .result ≡ x
+lies : (c : tie.After-spot-of) (x : Spot) → c .spot-of .result ≡ x
     → LiesAt (at-entry c .args .r) (at-entry c .args .marks .now) (at-entry c .args .s .0) x
-lies c x e = subst (LiesAt (at-entry c .args .r) (at-entry c .args .marks .now) (at-entry c .args .s .0)) e (c .spot .ensures)
+lies c x e = subst (LiesAt (at-entry c .args .r) (at-entry c .args .marks .now) (at-entry c .args .s .0)) e (c .spot-of .ensures)
 
-spot-requires : tie.Need-spot-requires
-spot-requires c κs = search needs
+spot-of-requires : tie.Need-spot-of-requires
+spot-of-requires c κs = search needs
 
 enum-known-d : tie.Need-enum-known-d
 enum-known-d c = search needs
@@ -182,7 +182,7 @@ pub arrive-spec : {M : Type 1} → statement M
 arrive-spec =
     tie.close
     (tie.spec
-    spot-requires
+    spot-of-requires
     enum-known-d
     sub-ahead
     ahead-requires

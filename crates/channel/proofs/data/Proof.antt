@@ -11,7 +11,7 @@ use Rattle.channel.proofs.data.Tie as tie
 use Rattle.channel.proofs.data.Reads as reads
 use Rattle.channel.proofs.data.Lts as lts
 use Rattle.channel.proofs.arrive.Reads as arrive-reads
-use Rattle.record.proofs.judge.Reads as judge-reads
+use Rattle.judging.proofs.judge.Reads as judge-reads
 use Rattle.channel.proofs.refused.Reads as refused-reads
 
 -- what the call was lent

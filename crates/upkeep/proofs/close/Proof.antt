@@ -2,7 +2,7 @@
 use mathlib.Core.Path.{_≡_, refl}
 use Rattle.larq.specs.Events.{close}
 use Rattle.record.specs.declared.Record.{Record}
-use Rattle.record.specs.declared.judging.Judged.the-variants.{Open}
+use Rattle.judging.specs.declared.Judged.the-variants.{Open}
 use Rattle.channel.specs.Call.{Parts, Buffers, parts, buffers}
 use Rattle.channel.proofs.Opening.{Opened, stopped-by, opened-by, enough, ready}
 use Rattle.channel.proofs.Calling.{called-stopped}
@@ -13,7 +13,7 @@ use Rattle.upkeep.proofs.close.Tie as tie
 use Rattle.upkeep.proofs.close.Reads as reads
 use Rattle.upkeep.proofs.close.Lts as lts
 use Rattle.upkeep.proofs.act.closed.Reads as closed-reads
-use Rattle.record.proofs.judge.Reads as judge-reads
+use Rattle.judging.proofs.judge.Reads as judge-reads
 use Rattle.channel.proofs.refused.Reads as refused-reads
 
 -- what the call was lent

@@ -10,7 +10,7 @@ use Rattle.upkeep.proofs.reminder.Statement.{statement}
 use Rattle.upkeep.proofs.reminder.Tie as tie
 use Rattle.upkeep.proofs.reminder.Reads as reads
 use Rattle.upkeep.proofs.reminder.Lts as lts
-use Rattle.record.proofs.judge.Reads as judge-reads
+use Rattle.judging.proofs.judge.Reads as judge-reads
 use Rattle.channel.proofs.refused.Reads as refused-reads
 use Rattle.upkeep.proofs.remind.Reads as remind-reads
 

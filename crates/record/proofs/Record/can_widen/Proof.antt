@@ -5,7 +5,7 @@ use Rattle.record.proofs.Record.can_widen.Tie as tie
 use Rattle.record.proofs.Record.can_widen.Reads as reads
 use Rattle.record.proofs.Record.can_widen.Lts as lts
 use Rattle.record.proofs.Record.span.Reads as span-reads
-use Rattle.record.proofs.judging.lent_enough.Reads as lent-enough-reads
+use Rattle.record.proofs.lent_enough.Reads as lent-enough-reads
 use Rattle.ring.proofs.Seq.steps.Reads as steps-reads
 
 lent-enough-requires : tie.Need-lent-enough-requires

@@ -2,44 +2,19 @@
 -- answer with'. Assumes nothing.
 use Prim.Native.Nat.{ℕ, _≤_, _<_}
 use mathlib.Core.Path.{_≡_, sym, _∙_}
-use mathlib.Core.Bool.{true, false, _&&_}
+use mathlib.Core.Bool.{true, false}
 use mathlib.Core.List.{List, []}
 use native.Mathlib.Omega.{arith}
-use lib.Dec.{leb}
 use lib.ListN.{length, getD}
-use borrow.Author.Tests.{le-leb, lt-leb, leb-true}
+use borrow.Author.Tests.{le-leb, lt-leb}
 use Rattle.wire.specs.Refusals.{Refusal}
 use Rattle.larq.specs.Channel.{window, sound}
 use Rattle.larq.specs.Table.{Lent, lentEnough}
-use Rattle.record.specs.Place.{recordWith, recordOf, soundAt}
-use Rattle.record.specs.Judge.{lentOf, common, RefusedBy, OpenAt}
+use Rattle.record.specs.Place.{recordWith, recordOf, soundAt, lentOf}
+use Rattle.judging.specs.Judge.{common, RefusedBy, OpenAt}
 use Rattle.record.specs.declared.Record.{Record}
-use Rattle.wire.proofs.Joined.{and-left, and-right}
-use Rattle.record.proofs.Sounds.{place-sizes, sound-by-sizes}
-
--- what number 1 asks
-pub record Enough (words handles marks up returned nack : ℕ) : Type 0 where
-  pub up-room : 32 ≤ up
-  pub returned-room : 32 ≤ returned
-  pub nack-room : 32 ≤ nack
-  pub words-sized : words ≡ 35
-  pub handles-sized : handles ≡ 32
-  pub marks-sized : marks ≡ 32
-
-pub enough-of : (words handles marks up returned nack : ℕ) → lentEnough window (lentOf words handles marks up returned nack) ≡ true
-    → Enough words handles marks up returned nack
-enough-of words handles marks up returned nack e =
-    let rooms = and-left (leb 32 up && (leb 32 returned && leb 32 nack)) _ e in
-    let rooms′ = and-right (leb 32 up) _ rooms in
-    let sizes = place-sizes words handles marks (and-right (leb 32 up && (leb 32 returned && leb 32 nack)) _ e) in
-    record {
-      up-room = leb-true 32 up (and-left (leb 32 up) _ rooms);
-      returned-room = leb-true 32 returned (and-left (leb 32 returned) _ rooms′);
-      nack-room = leb-true 32 nack (and-right (leb 32 returned) _ rooms′);
-      words-sized = sizes .0;
-      handles-sized = sizes .1;
-      marks-sized = sizes .2;
-    }
+use Rattle.record.proofs.Sizes.{Enough, enough-of}
+use Rattle.judging.proofs.Sounds.{sound-by-sizes}
 
 module _ (words marks : List ℕ) (handles up returned nack s time : ℕ) where
   abbrev lent : Lent

@@ -1,4 +1,4 @@
--- `Record::spot` meets its contract: M while nothing is missing is one ahead of C; else by the distance of s from C, which is far, ahead or behind,
+-- `spot_of` meets its contract: M while nothing is missing is one ahead of C; else by the distance of s from C, which is far, ahead or behind,
 -- and then by the window.
 use mathlib.Core.Path.{_≡_, sym, _∙_}
 use mathlib.Core.Logic.{inl, inr}
@@ -7,13 +7,13 @@ use lib.Dec.{eqb}
 use borrow.Author.Tests.{eqb-true}
 use Rattle.ring.specs.Ring.{steps}
 use Rattle.ring.proofs.Sides.{seen-far, seen-ahead, seen-behind}
-use Rattle.record.specs.Judge.{BehindAt}
+use Rattle.judging.specs.Judge.{BehindAt}
 use Rattle.record.specs.Moving.{spanIn}
 use Rattle.wire.proofs.Joined.{and-left, and-right}
-use Rattle.record.proofs.Spots.{next-is-ahead}
+use Rattle.judging.proofs.Spots.{next-is-ahead}
 use borrow.Author.Needs.{needs}
-use Rattle.record.proofs.Record.spot.Statement.{statement}
-use Rattle.record.proofs.Record.spot.Tie as tie
+use Rattle.judging.proofs.spot_of.Statement.{statement}
+use Rattle.judging.proofs.spot_of.Tie as tie
 
 span-requires : tie.Need-span-requires
 span-requires c κs = search needs
@@ -21,9 +21,9 @@ span-requires c κs = search needs
 returns : tie.Need-returns
 returns c =
     let a = c .before .before .before .before .before .before .before .args in
-    let is-oldest = eqb (a .s .0) (a .self .oldest .0) in
-    let none : spanIn (a .self) ≡ 0 = sym (c .before .before .before .span .ensures) ∙ eqb-true _ 0 (and-right is-oldest _ (c .if1 .taken)) in
-    record { is = next-is-ahead (a .self .current .0) (a .self .oldest .0) (a .s .0) (eqb-true _ _ (and-left is-oldest _ (c .if1 .taken))) none; none = none }
+    let is-oldest = eqb (a .s .0) (a .r .oldest .0) in
+    let none : spanIn (a .r) ≡ 0 = sym (c .before .before .before .span .ensures) ∙ eqb-true _ 0 (and-right is-oldest _ (c .if1 .taken)) in
+    record { is = next-is-ahead (a .r .current .0) (a .r .oldest .0) (a .s .0) (eqb-true _ _ (and-left is-oldest _ (c .if1 .taken))) none; none = none }
 
 distance-requires : tie.Need-distance-requires
 distance-requires c κs = search needs
@@ -44,11 +44,11 @@ returns-3 : tie.Need-returns-3
 returns-3 c = rw (c .steps .ensures) (seen-ahead _ _ (rw (c .before .before .is-ahead .ensures, c .before .before .before .before .before .distance .ensures) at (c .before .if3 .taken)))
 
 -- past the tests of the distance
-behind : (c : tie.Else3) → BehindAt (c .before .before .before .before .before .before .before .before .before .before .before .before .args .self .current .0) (c .before .before .before .before .before .before .before .before .before .before .before .before .args .s .0)
+behind : (c : tie.Else3) → BehindAt (c .before .before .before .before .before .before .before .before .before .before .before .before .args .r .current .0) (c .before .before .before .before .before .before .before .before .before .before .before .before .args .s .0)
 behind c =
     let far = rw (c .before .before .before .is-far .ensures, c .before .before .before .before .distance .ensures) at (c .before .before .if2 .left) in
     let ahead = rw (c .before .is-ahead .ensures, c .before .before .before .before .distance .ensures) at (c .if3 .left) in
-    let found = seen-behind (c .before .before .before .before .before .before .before .before .before .before .before .before .args .self .current .0) (c .before .before .before .before .before .before .before .before .before .before .before .before .args .s .0) far ahead in
+    let found = seen-behind (c .before .before .before .before .before .before .before .before .before .before .before .before .args .r .current .0) (c .before .before .before .before .before .before .before .before .before .before .before .before .args .s .0) far ahead in
     record { by = found .0; is = found .1 }
 
 steps-requires-2 : tie.Need-steps-requires-2
@@ -62,7 +62,7 @@ returns-4 c =
     }
 
 -- past the test of the window
-within : (c : tie.Else4) → steps (c .before .before .before .before .before .before .before .before .before .before .before .before .before .before .args .self .oldest .0) (c .before .before .before .before .before .before .before .before .before .before .before .before .before .before .args .s .0) < spanIn (c .before .before .before .before .before .before .before .before .before .before .before .before .before .before .args .self)
+within : (c : tie.Else4) → steps (c .before .before .before .before .before .before .before .before .before .before .before .before .before .before .args .r .oldest .0) (c .before .before .before .before .before .before .before .before .before .before .before .before .before .before .args .s .0) < spanIn (c .before .before .before .before .before .before .before .before .before .before .before .before .before .before .args .r)
 within c = rw (c .before .steps2 .ensures, c .before .before .before .before .before .before .before .before .before .before .span .ensures) at (c .if4 .left)
 
 slot-requires : tie.Need-slot-requires
@@ -86,8 +86,8 @@ returns-6 c =
       known = inr (within (c .before .before .before), rw (c .before .octet .ensures, c .before .before .slot .ensures) at (c .if5 .left));
     }
 
-pub spot-spec : {M : Type 1} → statement M
-spot-spec =
+pub spot-of-spec : {M : Type 1} → statement M
+spot-of-spec =
     tie.close
     (tie.spec
     span-requires

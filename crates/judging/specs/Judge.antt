@@ -10,19 +10,14 @@ use Rattle.wire.specs.Refusals.{Refusal, _else_, first}
 use Rattle.larq.specs.Channel.{window, reach, Cell, Channel, headMissing, times, orderly, sound}
 use Rattle.ring.specs.Ring.{steps, seen, Ahead, Behind, Far}
 use Rattle.larq.specs.Table.{Lent, lentEnough, notBefore}
 use Rattle.record.specs.Place as place
-use Rattle.record.specs.Place.{cellAt, spanOf, recordOf, placeSized}
+use Rattle.record.specs.Place.{cellAt, spanOf, recordOf}
 use Rattle.record.specs.Moving.{spanIn}
 use Rattle.record.specs.declared.Record.{Record}
-use Rattle.record.specs.declared.judging.Judged.{Judged}
-use Rattle.record.specs.declared.judging.Judged.the-variants.{Refused, Open}
-use Rattle.record.specs.declared.judging.Spot.{Spot}
-use Rattle.record.specs.declared.judging.Spot.the-variants as spot
-
--- what is lent for a call, by its lengths
-abbrev pub lentOf : ℕ → ℕ → ℕ → ℕ → ℕ → ℕ → Lent
-lentOf words handles marks up returned nack =
-    record { up = up; returned = returned; nack = nack; whole = placeSized words handles marks }
+use Rattle.judging.specs.declared.Judged.{Judged}
+use Rattle.judging.specs.declared.Judged.the-variants.{Refused, Open}
+use Rattle.judging.specs.declared.Spot.{Spot}
+use Rattle.judging.specs.declared.Spot.the-variants as spot
 
 -- the times of the missing numbers, in sequence order: the handles have no part in it
 abbrev pub timesOf : List ℕ → List ℕ → ℕ → ℕ → List ℕ

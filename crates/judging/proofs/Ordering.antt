@@ -10,9 +10,9 @@ use lib.ListN.{getD}
 use borrow.Author.Tests.{le-leb, lt-leb, leb-true}
 use Rattle.ring.specs.Ring.{next}
 use Rattle.larq.specs.Channel.{times, orderly}
 use Rattle.record.specs.Place.{cellAt}
-use Rattle.record.specs.Judge.{timesOf}
+use Rattle.judging.specs.Judge.{timesOf}
 use Rattle.record.proofs.Windows.{window-none, window-suc, cell-waits, cell-missing}
 
 and-false : (b : Bool) → (b && false) ≡ false
 and-false true = refl

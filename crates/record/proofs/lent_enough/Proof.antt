@@ -3,10 +3,10 @@ use mathlib.Core.Path.{ap}
 use mathlib.Core.Bool.{_&&_}
 use lib.Dec.{leb}
 use borrow.Author.Needs.{needs}
-use Rattle.record.proofs.judging.lent_enough.Statement.{statement}
-use Rattle.record.proofs.judging.lent_enough.Tie as tie
-use Rattle.record.proofs.judging.lent_enough.Reads as reads
-use Rattle.record.proofs.judging.lent_enough.Lts as lts
+use Rattle.record.proofs.lent_enough.Statement.{statement}
+use Rattle.record.proofs.lent_enough.Tie as tie
+use Rattle.record.proofs.lent_enough.Reads as reads
+use Rattle.record.proofs.lent_enough.Lts as lts
 use Rattle.record.proofs.is_whole.Reads as is-whole-reads
 
 cast-room : tie.Need-cast-room

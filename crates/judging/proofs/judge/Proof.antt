@@ -1,17 +1,17 @@
--- `judge` meets its contract: the first test that fails gives its number (Judging).
+-- `judge` meets its contract: the first test that fails gives its number (Refusing).
 use mathlib.Core.Path.{sym, _∙_}
 use native.Mathlib.Omega.{arith}
 use borrow.Author.Tests.{not-true, not-false}
-use Rattle.record.proofs.Sounds.{sound-ring-of}
-use Rattle.record.proofs.Refusing.{given, refused-1, refused-2, refused-6, refused-7, opens}
+use Rattle.judging.proofs.Sounds.{sound-ring-of}
+use Rattle.judging.proofs.Refusing.{given, refused-1, refused-2, refused-6, refused-7, opens}
 use borrow.Author.Needs.{needs}
-use Rattle.record.proofs.judging.judge.Statement.{statement}
-use Rattle.record.proofs.judging.judge.Tie as tie
-use Rattle.record.proofs.judging.judge.Reads as reads
-use Rattle.record.proofs.judging.judge.Lts as lts
-use Rattle.record.proofs.judging.is_sound.Reads as is-sound-reads
-use Rattle.record.proofs.judging.lent_enough.Reads as lent-enough-reads
-use Rattle.record.proofs.judging.read.Reads as read-reads
+use Rattle.judging.proofs.judge.Statement.{statement}
+use Rattle.judging.proofs.judge.Tie as tie
+use Rattle.judging.proofs.judge.Reads as reads
+use Rattle.judging.proofs.judge.Lts as lts
+use Rattle.judging.proofs.is_sound.Reads as is-sound-reads
+use Rattle.record.proofs.lent_enough.Reads as lent-enough-reads
+use Rattle.judging.proofs.read.Reads as read-reads
 
 lent-enough-requires : tie.Need-lent-enough-requires
 lent-enough-requires c κs = search needs

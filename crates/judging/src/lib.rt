@@ -3,33 +3,17 @@
 ghost use mathlib.Core.Path.{_≡_};
 ghost use Prim.Native.Nat.{_<_};
 ghost use lib.ListN.{length, getD};
-ghost use Rattle.larq.specs.Channel.{window, orderly};
-ghost use Rattle.larq.specs.Table.{lentEnough};
-ghost use Rattle.record.specs.Place.{soundAt};
-ghost use Rattle.record.specs.Judge.{lentOf, inRing, timesOf, inShape, Judges, LiesAt};
-use crate::Record;
-use crate::SLOTS;
-use crate::WORDS;
-use crate::is_whole;
-use crate::slot;
+ghost use Rattle.larq.specs.Channel.{orderly};
+ghost use Rattle.record.specs.Place.{soundAt, lentOf};
+ghost use Rattle.judging.specs.Judge.{inRing, timesOf, inShape, Judges, LiesAt};
 use larq::WINDOW;
+use record::Record;
+use record::SLOTS;
+use record::WORDS;
+use record::lent_enough;
+use record::slot;
 use ring::Seq;
 use wire::octet;
-
-// Whether the parts and the buffers are as long as they should be: number 1.
-pub(crate) fn lent_enough(
-    words: usize,
-    handles: usize,
-    marks: usize,
-    up: usize,
-    returned: usize,
-    nack: usize,
-) -> bool
-    ensures { λ r. ⌜ r ≡ lentEnough window (lentOf words handles marks up returned nack) ⌝ }
-{
-    let room = WINDOW as usize;
-    ((room <= up) & ((room <= returned) & (room <= nack))) & is_whole(words, handles, marks)
-}
 
 // The record that a place's words hold.
 fn read(words: &[u64]) -> Record
@@ -76,25 +60,23 @@ fn in_order(words: &[u64], marks: &[u8], from: Seq, n: u16) -> bool
     before <= words[2]
 }
 
-impl Record {
-    // Whether the window is not too wide, M is missing if anything is, and the times of missing numbers are in order.
-    fn in_shape(self, words: &[u64], marks: &[u8]) -> bool
-        requires { ⌜ (length (now words) ≡ 35) × (length (now marks) ≡ 32) ⌝ }
-        ensures { λ r. ⌜ r ≡ inShape (self .current .0) (self .oldest .0) (now (words .entry)) (now (marks .entry)) ⌝ }
-    {
-        let n = self.span();
-        if n == 0 {
-            return true;
-        }
-        if WINDOW < n {
-            return false;
-        }
-        let j = slot(self.oldest);
-        if marks[j] != 0 {
-            return false;
-        }
-        in_order(words, marks, self.oldest, n)
+// Whether the window is not too wide, M is missing if anything is, and the times of missing numbers are in order.
+fn in_shape(r: Record, words: &[u64], marks: &[u8]) -> bool
+    requires { ⌜ (length (now words) ≡ 35) × (length (now marks) ≡ 32) ⌝ }
+    ensures { λ b. ⌜ b ≡ inShape (r .current .0) (r .oldest .0) (now (words .entry)) (now (marks .entry)) ⌝ }
+{
+    let n = r.span();
+    if n == 0 {
+        return true;
     }
+    if WINDOW < n {
+        return false;
+    }
+    let j = slot(r.oldest);
+    if marks[j] != 0 {
+        return false;
+    }
+    in_order(words, marks, r.oldest, n)
 }
 
 // Whether a place's record is not broken. A place whose parts have other lengths has no such record.
@@ -107,7 +89,7 @@ pub fn is_sound(words: &[u64], marks: &[u8]) -> bool
     if !in_ring(words) {
         return false;
     }
-    read(words).in_shape(words, marks)
+    in_shape(read(words), words, marks)
 }
 
 // What is decided of an event: the number that refuses it, or the record that it acts on.
@@ -154,31 +136,29 @@ pub enum Spot {
     Far,
 }
 
-impl Record {
-    pub fn spot(self, marks: &[u8], s: Seq) -> Spot
-        ensures { λ r. ⌜ LiesAt self (now (marks .entry)) (s .0) r ⌝ }
-    {
-        let c = self.current;
-        let m = self.oldest;
-        let n = self.span();
-        if (s.0 == m.0) & (n == 0) {
-            return Spot::Next;
-        }
-        let d = c.distance(s);
-        if d.is_far() {
-            return Spot::Far;
-        }
-        if d.is_ahead() {
-            return Spot::Ahead(c.steps(s));
-        }
-        if n <= m.steps(s) {
-            return Spot::Known;
-        }
-        let j = slot(s);
-        if octet(marks, j) == 0 {
-            Spot::Missing
-        } else {
-            Spot::Known
-        }
+pub fn spot_of(r: Record, marks: &[u8], s: Seq) -> Spot
+    ensures { λ p. ⌜ LiesAt r (now (marks .entry)) (s .0) p ⌝ }
+{
+    let c = r.current;
+    let m = r.oldest;
+    let n = r.span();
+    if (s.0 == m.0) & (n == 0) {
+        return Spot::Next;
+    }
+    let d = c.distance(s);
+    if d.is_far() {
+        return Spot::Far;
+    }
+    if d.is_ahead() {
+        return Spot::Ahead(c.steps(s));
+    }
+    if n <= m.steps(s) {
+        return Spot::Known;
+    }
+    let j = slot(s);
+    if octet(marks, j) == 0 {
+        Spot::Missing
+    } else {
+        Spot::Known
     }
 }

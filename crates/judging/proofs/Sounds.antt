@@ -11,10 +11,9 @@ use Rattle.wire.proofs.Joined.{and-left, and-right}
 use Rattle.ring.specs.Ring.{next}
 use Rattle.larq.specs.Channel.{waits, missing, headMissing, times, orderly, sound}
 use Rattle.larq.specs.Channel as channel
-use Rattle.record.specs.Place.{window, cellAt, spanOf, recordWith, recordOf, soundAt, placeSized}
-use Rattle.record.specs.Judge.{timesOf}
-use Rattle.record.specs.Judge.{inRing, shapely, inShape}
+use Rattle.record.specs.Place.{window, cellAt, spanOf, recordWith, recordOf, soundAt}
+use Rattle.judging.specs.Judge.{timesOf, inRing, shapely, inShape}
 use Rattle.record.proofs.Windows.{window-none, window-suc, length-window, cell-waits, cell-missing}
 
 -- A test of the span, of M and of the times, by what the code finds.
 module _ (c m n : ℕ) (w k : List ℕ) (span : n ≡ spanOf c m) where
@@ -47,15 +46,6 @@ module _ (c m n : ℕ) (w k : List ℕ) (span : n ≡ spanOf c m) where
 and-assoc : (a b c : Bool) → (a && (b && c)) ≡ ((a && b) && c)
 and-assoc true b c = refl
 and-assoc false b c = refl
-
--- the parts of a place, by their lengths
-pub place-sizes : (words handles marks : ℕ) → placeSized words handles marks ≡ true → (words ≡ 35) × (handles ≡ 32) × (marks ≡ 32)
-place-sizes words handles marks e =
-    let rest = and-right (eqb words 35) _ e in (
-      eqb-true words 35 (and-left (eqb words 35) _ e),
-      eqb-true handles 32 (and-left (eqb handles 32) _ rest),
-      eqb-true marks 32 (and-right (eqb handles 32) _ rest),
-    )
 
 -- The whole test, from the three that the code makes.
 module _ (w k : List ℕ) where

@@ -2,15 +2,15 @@
 use mathlib.Core.Path.{sym, ap₂, _∙_}
 use native.Mathlib.Omega.{arith}
 use borrow.Author.Tests.{not-true, not-false}
-use Rattle.record.specs.Judge.{inShape}
-use Rattle.record.proofs.Sounds.{sizes-of, ring-of, sound-sizes, sound-ring, sound-shape}
-use Rattle.record.proofs.judging.is_sound.Statement.{statement}
-use Rattle.record.proofs.judging.is_sound.Tie as tie
-use Rattle.record.proofs.judging.is_sound.Reads as reads
-use Rattle.record.proofs.judging.is_sound.Lts as lts
-use Rattle.record.proofs.judging.in_ring.Reads as in-ring-reads
-use Rattle.record.proofs.judging.read.Reads as read-reads
-use Rattle.record.proofs.Record.in_shape.Reads as in-shape-reads
+use Rattle.judging.specs.Judge.{inShape}
+use Rattle.judging.proofs.Sounds.{sizes-of, ring-of, sound-sizes, sound-ring, sound-shape}
+use Rattle.judging.proofs.is_sound.Statement.{statement}
+use Rattle.judging.proofs.is_sound.Tie as tie
+use Rattle.judging.proofs.is_sound.Reads as reads
+use Rattle.judging.proofs.is_sound.Lts as lts
+use Rattle.judging.proofs.in_ring.Reads as in-ring-reads
+use Rattle.judging.proofs.read.Reads as read-reads
+use Rattle.judging.proofs.in_shape.Reads as in-shape-reads
 
 returns : tie.Need-returns
 returns c =

@@ -1,13 +1,13 @@
 -- `in_order` meets its contract. The loop keeps: whether the rest is in order from here is whether the whole is (Ordering, `Looks`).
 use mathlib.Core.Logic.{⊎-elim}
 use native.Mathlib.Omega.{arith}
-use Rattle.record.proofs.Ordering.{Looks, looks-start, looks-end, looks-falls, looks-missing, looks-waits}
+use Rattle.judging.proofs.Ordering.{Looks, looks-start, looks-end, looks-falls, looks-missing, looks-waits}
 use borrow.Author.Needs.{needs}
-use Rattle.record.proofs.judging.in_order.Statement.{statement}
-use Rattle.record.proofs.judging.in_order.Tie as tie
-use Rattle.record.proofs.judging.in_order.Reads as reads
-use Rattle.record.proofs.judging.in_order.Lts as lts
+use Rattle.judging.proofs.in_order.Statement.{statement}
+use Rattle.judging.proofs.in_order.Tie as tie
+use Rattle.judging.proofs.in_order.Reads as reads
+use Rattle.judging.proofs.in_order.Lts as lts
 use Rattle.record.proofs.slot.Reads as slot-reads
 use Rattle.ring.proofs.Seq.forward.Reads as forward-reads
 
 abbrev Inv-loop : tie.InvT-loop

@@ -1,0 +1,4 @@
+pub mod Ordering
+pub mod Sounds
+pub mod Refusing
+pub mod Spots
