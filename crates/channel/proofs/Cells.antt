@@ -10,10 +10,10 @@ use lib.Seq.{getD-set-same, getD-set-other}
 use Rattle.ring.specs.Ring.{size, forward}
 use Rattle.larq.specs.Channel.{Cell, waits, missing}
 use Rattle.record.specs.Place.{window, cellAt}
-use Rattle.record.specs.Step.{stamped}
+use Rattle.stepping.specs.Step.{stamped}
 use Rattle.record.proofs.Rounds.{slots-apart}
 use Rattle.record.proofs.Windows.{window-add, window-same, window-all, cell-missing}
-use Rattle.record.proofs.Stamping.{stamped-in, stamped-out}
+use Rattle.stepping.proofs.Stamping.{stamped-in, stamped-out}
 
 -- a handle is put at slot i, and the slot marked
 module _ (w h k : List ℕ) (i x : ℕ) where

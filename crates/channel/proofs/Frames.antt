@@ -16,7 +16,7 @@ use Rattle.record.specs.Moving.{recordIn, spanIn, headed}
 use Rattle.channel.specs.Steps.{Ready, answerOf, filledAt, dataAt}
 use Rattle.judging.specs.Judge.{NextAt, MissingAt, KnownAt}
 use Rattle.channel.specs.declared.Answer.{Answer}
-use Rattle.record.specs.declared.step.Counts.{Counts}
+use Rattle.stepping.specs.declared.Counts.{Counts}
 use Rattle.record.specs.declared.Record.{Record}
 use Rattle.record.proofs.Windows.{window-none}
 use Rattle.record.proofs.Laying.{wrote-none, wrote-one}

@@ -16,12 +16,12 @@ use Rattle.larq.specs.Settling.{Walked, walk, wide}
 use Rattle.larq.specs.Events.{asked}
 use Rattle.record.specs.Place.{window, cellAt, spanOf}
 use Rattle.record.specs.Walk.{earlier, passes, waitingOf}
-use Rattle.record.specs.Step.{stamped}
+use Rattle.stepping.specs.Step.{stamped}
 use Rattle.channel.specs.Steps.{Sized, cellsOf, handlesWith, marksWith, Last, Waits, Missing}
 use Rattle.record.proofs.Rounds.{slots-apart, span-end, span-between}
 use Rattle.record.proofs.Windows.{length-window, drop-window, take-window, cell-missing}
 use Rattle.record.proofs.Waiting.{waiting-window}
-use Rattle.record.proofs.Stamping.{length-stamped}
+use Rattle.stepping.proofs.Stamping.{length-stamped}
 use Rattle.channel.proofs.Cells.{cell-brought, cell-beside, cell-missed, cell-unmissed, window-grown}
 use Rattle.record.proofs.Walks.{so-far, Passed, passed, waiting-append, waiting-fewer, waiting-none, up-few, passes-before, walk-narrow, walk-wide}
 use Rattle.record.proofs.Appending.{drop-append, take-append, drop-replicate}

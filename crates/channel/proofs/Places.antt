@@ -18,7 +18,7 @@ use Rattle.record.proofs.Settling.{settles-all}
 use Rattle.channel.specs.Steps.{Sized, Roomy, walkOf, passedOf, Finished}
 use Rattle.channel.specs.Call.{parts}
 use Rattle.record.specs.declared.Record.{Record}
-use Rattle.record.specs.declared.step.Counts.{Counts}
+use Rattle.stepping.specs.declared.Counts.{Counts}
 use Rattle.record.specs.declared.window.Settled.{Settled}
 use Rattle.record.proofs.Rounds.{span-passed}
 use Rattle.record.proofs.Windows.{drop-window, length-window, window-same}

@@ -16,18 +16,18 @@ use Rattle.record.specs.Place.{window, cellAt, recordWith}
 use Rattle.channel.specs.Call.{Did, parts, buffers}
 use Rattle.record.specs.Buffers.{Laid}
 use Rattle.record.specs.Walk.{earlier, waitingOf, Settles, settleNumbers}
-use Rattle.record.specs.Step.{Missed, stamped, Widened, Widens}
+use Rattle.stepping.specs.Step.{Missed, stamped, Widened, Widens}
 use Rattle.channel.specs.Steps.{Sized, Ready, Roomy, walkOf, Finished, answerOf, Last, cellsOf, handlesWith, marksWith, IsAhead}
 use Rattle.record.specs.Moving.{recordIn, spanIn, IsGrown}
 use Rattle.record.specs.declared.Record.{Record}
 use Rattle.record.specs.declared.Grown.{Grown}
-use Rattle.record.specs.declared.step.Counts.{Counts}
-use Rattle.record.specs.declared.step.Passed.{Passed}
+use Rattle.stepping.specs.declared.Counts.{Counts}
+use Rattle.stepping.specs.declared.Passed.{Passed}
 use Rattle.record.specs.declared.window.Settled.{Settled}
-use Rattle.record.proofs.Stepping.{can-step}
+use Rattle.stepping.proofs.Stepping.{can-step}
 use Rattle.record.proofs.Walks.{never-lost}
 use Rattle.record.proofs.Laying.{laid-length, laid-laid, wrote-front, wrote-none}
-use Rattle.record.proofs.Stamping.{length-stamped}
+use Rattle.stepping.proofs.Stamping.{length-stamped}
 use Rattle.channel.proofs.Places.{walked}
 use Rattle.channel.proofs.Growing.{Grows, new-cell, walk-again, past-few, span-again, walk-grown, up-room, asked-grown}
 

@@ -17,10 +17,10 @@ use Rattle.record.specs.Place.{window, cellAt, recordWith}
 use Rattle.channel.specs.Call.{Did, parts, buffers}
 use Rattle.record.specs.Walk.{earlier}
 use Rattle.record.specs.Moving.{recordIn, spanIn}
-use Rattle.record.specs.Step.{nothing}
+use Rattle.stepping.specs.Step.{nothing}
 use Rattle.channel.specs.Steps.{Ready, Roomy, walkOf, Finished, answerOf, filledAt}
 use Rattle.judging.specs.Judge.{MissingAt, KnownAt}
-use Rattle.record.specs.declared.step.Counts.{Counts}
+use Rattle.stepping.specs.declared.Counts.{Counts}
 use Rattle.record.specs.declared.Record.{Record}
 use Rattle.record.proofs.Rounds.{slot-steps}
 use Rattle.record.proofs.Windows.{length-window, window-at, window-set, cell-waits, cell-missing}

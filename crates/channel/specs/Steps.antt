@@ -21,7 +21,7 @@ use Rattle.record.specs.declared.Record.{Record}
 use Rattle.record.specs.Walk.{passes, walkFrom}
 use Rattle.channel.specs.Call.{Parts, Buffers}
 use Rattle.channel.specs.declared.Answer.{Answer}
-use Rattle.record.specs.declared.step.Counts.{Counts}
+use Rattle.stepping.specs.declared.Counts.{Counts}
 
 -- the parts of a place are as long as they should be
 pub record Sized (w h k : List ℕ) : Type 0 where

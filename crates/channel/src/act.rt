@@ -11,12 +11,13 @@ ghost use Rattle.record.specs.Moving.{recordIn, headed};
 ghost use Rattle.channel.specs.Steps.{Sized, Ready, Roomy, Finished, answerOf, Waits, IsAhead, filledAt};
 ghost use Rattle.judging.specs.Judge.{MissingAt};
 use crate::Answer;
-use record::Counts;
 use record::NEVER;
 use record::Record;
 use record::hand;
 use record::slot;
 use ring::Seq;
+use stepping::Counts;
+use stepping::widened;
 
 // A frame's number waits at its slot with its handle, and M settles. It gives nothing up by its time, so no more are lost than before.
 fn brought(
@@ -67,7 +68,7 @@ pub(crate) fn ahead(
         (buffers (now (up .entry)) [] (now (nack .entry)))
         (buffers (now (up .exit)) [] (now (nack .exit))) (answerOf k) ⌝ }
 {
-    let p = r.widened(words, handles, marks, up, nack, s, made, time);
+    let p = widened(r, words, handles, marks, up, nack, s, made, time);
     let g = p.grown;
     brought(g.kept, words, handles, marks, up, p.had, s, handle)
 }

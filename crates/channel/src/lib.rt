@@ -19,9 +19,9 @@ use judging::Judged;
 use judging::Spot;
 use judging::judge;
 use judging::spot_of;
-use record::Counts;
 use record::Record;
 use ring::Seq;
+use stepping::Counts;
 
 // What a call answers: the number, how many entries of each buffer it wrote, and how many numbers it gave up.
 #[repr(C)]

@@ -6,5 +6,3 @@ pub mod Laying
 pub mod Walks
 pub mod Settling
 pub mod Waiting
-pub mod Stamping
-pub mod Stepping

@@ -2,4 +2,3 @@ pub mod Place
 pub mod Buffers
 pub mod Moving
 pub mod Walk
-pub mod Step

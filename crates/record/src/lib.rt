@@ -1,6 +1,6 @@
 // A channel's record by value: C, M and the latest time. Its cells stay in the lent parts (document 01, 'The channel table').
-// What becomes of its window is said here; the step ahead, in step.rt; the other loops over a window's slots, in window.rt. What is
-// decided of an event is judging's.
+// What becomes of its window is said here; the loops over a window's slots are in window.rt. What is decided of an event is judging's, the
+// step ahead in place stepping's.
 ghost use mathlib.Core.Path.{_≡_};
 ghost use Prim.Native.Nat.{_-_, _%_};
 ghost use Rattle.ring.specs.Ring.{forward, next};
@@ -9,13 +9,10 @@ ghost use Rattle.larq.specs.Table.{lentEnough};
 ghost use Rattle.record.specs.Place.{spanOf, placeSized, lentOf};
 ghost use Rattle.record.specs.Moving.{IsGrown, storedIn};
 
-mod step;
 mod window;
 
 use larq::WINDOW;
 use ring::Seq;
-pub use step::Counts;
-pub use step::Passed;
 pub use window::NEVER;
 pub use window::Settled;
 pub use window::hand;

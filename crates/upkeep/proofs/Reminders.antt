@@ -16,7 +16,7 @@ use Rattle.channel.specs.Call.{Parts, Buffers, parts, buffers, Says, Did, Calle
 use Rattle.record.specs.Moving.{recordIn}
 use Rattle.channel.specs.Steps.{Ready, answerOf, reminderAt}
 use Rattle.channel.specs.declared.Answer.{Answer}
-use Rattle.record.specs.declared.step.Counts.{Counts}
+use Rattle.stepping.specs.declared.Counts.{Counts}
 use Rattle.record.specs.declared.Record.{Record}
 use Rattle.channel.proofs.Places.{record-taken}
 use Rattle.channel.proofs.Opening.{Opened, ready}

@@ -12,11 +12,12 @@ ghost use Rattle.channel.specs.Call.{Did, Says, parts, buffers};
 ghost use Rattle.channel.specs.Steps.{Ready, answerOf, Missing, IsAhead};
 use channel::Answer;
 use larq::HOLD;
-use record::Counts;
 use record::NEVER;
 use record::Record;
 use record::hand;
 use ring::Seq;
+use stepping::Counts;
+use stepping::widened;
 use zeros::zero_u8;
 use zeros::zero_u32;
 use zeros::zero_u64;
@@ -42,7 +43,7 @@ pub(crate) fn told(
         (buffers (now (up .entry)) [] (now (nack .entry)))
         (buffers (now (up .exit)) [] (now (nack .exit))) (answerOf k) ⌝ }
 {
-    let p = r.widened(words, handles, marks, up, nack, s, made, time);
+    let p = widened(r, words, handles, marks, up, nack, s, made, time);
     let g = p.grown;
     let had = p.had;
     let kept = g.kept;

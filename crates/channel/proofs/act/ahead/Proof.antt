@@ -7,7 +7,7 @@ use Rattle.channel.proofs.act.ahead.Tie as tie
 use Rattle.channel.proofs.act.ahead.Reads as reads
 use Rattle.channel.proofs.act.ahead.Lts as lts
 use Rattle.channel.proofs.act.brought.Reads as brought-reads
-use Rattle.record.proofs.Record.widened.Reads as widened-reads
+use Rattle.stepping.proofs.widened.Reads as widened-reads
 
 -- from where C has come to s back to the entry
 abbrev at-entry : tie.After-widened → tie.Start

@@ -10,7 +10,7 @@ use Rattle.upkeep.proofs.act.told.Tie as tie
 use Rattle.upkeep.proofs.act.told.Reads as reads
 use Rattle.upkeep.proofs.act.told.Lts as lts
 use Rattle.record.proofs.Record.settle.Reads as settle-reads
-use Rattle.record.proofs.Record.widened.Reads as widened-reads
+use Rattle.stepping.proofs.widened.Reads as widened-reads
 
 -- from where C has come to s back to the entry
 abbrev at-entry : tie.After-widened → tie.Start

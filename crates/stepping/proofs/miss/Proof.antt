@@ -1,12 +1,12 @@
 -- `miss` meets its contract. The loop keeps: what is still to be put from here is what was to be put from the start (Stamping, `Misses`).
 use native.Mathlib.Omega.{arith}
 use borrow.Author.Needs.{needs}
-use Rattle.record.proofs.Stamping.{Misses, misses-end, misses-turn}
-use Rattle.record.proofs.step.miss.Statement.{statement}
-use Rattle.record.proofs.step.miss.Tie as tie
-use Rattle.record.proofs.step.miss.Reads as reads
-use Rattle.record.proofs.step.miss.Lts as lts
+use Rattle.stepping.proofs.Stamping.{Misses, misses-end, misses-turn}
+use Rattle.stepping.proofs.miss.Statement.{statement}
+use Rattle.stepping.proofs.miss.Tie as tie
+use Rattle.stepping.proofs.miss.Reads as reads
+use Rattle.stepping.proofs.miss.Lts as lts
 use Rattle.record.proofs.slot.Reads as slot-reads
 use Rattle.ring.proofs.Seq.forward.Reads as forward-reads
 
 abbrev Inv-loop : tie.InvT-loop

@@ -3,33 +3,33 @@ use mathlib.Core.Path.{_≡_, refl, sym, _∙_}
 use mathlib.Core.Bool.{true}
 use native.Mathlib.Omega.{arith}
 use borrow.Author.Tests.{not-true, not-false}
-use Rattle.record.proofs.Stepping.{not-both, Fits, fits-of, asked-few, handed-all, handed-few}
-use Rattle.record.specs.Step.{canStep}
+use Rattle.stepping.proofs.Stepping.{not-both, Fits, fits-of, asked-few, handed-all, handed-few}
+use Rattle.stepping.specs.Step.{canStep}
 use borrow.Author.Needs.{needs}
-use Rattle.record.proofs.Record.widened.Statement.{statement}
-use Rattle.record.proofs.Record.widened.Tie as tie
-use Rattle.record.proofs.Record.widened.Reads as reads
-use Rattle.record.proofs.Record.widened.Lts as lts
-use Rattle.record.proofs.Record.can_widen.Reads as can-widen-reads
+use Rattle.stepping.proofs.widened.Statement.{statement}
+use Rattle.stepping.proofs.widened.Tie as tie
+use Rattle.stepping.proofs.widened.Reads as reads
+use Rattle.stepping.proofs.widened.Lts as lts
+use Rattle.stepping.proofs.can_widen.Reads as can-widen-reads
 use Rattle.record.proofs.Record.grown.Reads as grown-reads
-use Rattle.record.proofs.Record.unmoved.Reads as unmoved-reads
-use Rattle.record.proofs.step.miss.Reads as miss-reads
-use Rattle.record.proofs.window.hand.Reads as hand-reads
+use Rattle.stepping.proofs.unmoved.Reads as unmoved-reads
+use Rattle.stepping.proofs.miss.Reads as miss-reads
+use Rattle.record.proofs.hand.Reads as hand-reads
 
 -- from where the window has grown back to the entry
 abbrev at-entry : tie.After-grown → tie.Start
 at-entry c = c .before .before .before .before .before .before .before .before
 
 can : (c : tie.After-grown)
-    → canStep (at-entry c .args .self) (at-entry c .args .s .0) (at-entry c .args .made)
+    → canStep (at-entry c .args .r) (at-entry c .args .s .0) (at-entry c .args .made)
     (at-entry c .args .words .now) (at-entry c .args .handles .now) (at-entry c .args .marks .now) (at-entry c .args .up .now) (at-entry c .args .nack .now) ≡ true
 can c = sym (c .before .before .can-widen .ensures) ∙ not-false _ (c .before .if1 .left)
 
 fits : (c : tie.After-grown)
-    → Fits (at-entry c .args .self) (at-entry c .args .s .0) (at-entry c .args .made)
+    → Fits (at-entry c .args .r) (at-entry c .args .s .0) (at-entry c .args .made)
     (at-entry c .args .words .now) (at-entry c .args .handles .now) (at-entry c .args .marks .now) (at-entry c .args .up .now) (at-entry c .args .nack .now)
 fits c =
-    fits-of (at-entry c .args .self) (at-entry c .args .s .0) (at-entry c .args .made)
+    fits-of (at-entry c .args .r) (at-entry c .args .s .0) (at-entry c .args .made)
     (at-entry c .args .words .now) (at-entry c .args .handles .now) (at-entry c .args .marks .now) (at-entry c .args .up .now) (at-entry c .args .nack .now) (can c)
 
 can-widen-requires : tie.Need-can-widen-requires

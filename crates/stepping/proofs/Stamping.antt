@@ -11,9 +11,9 @@ use lib.ListN.{length, getD, set, length-set}
 use lib.Seq.{sets, getD-set-same, getD-set-other}
 use borrow.Author.Tests.{eqb-true, eqb-false}
 use Rattle.ring.specs.Ring.{next, rising}
-use Rattle.record.specs.Step.{stamped, Missed}
+use Rattle.stepping.specs.Step.{stamped, Missed}
 use Rattle.record.proofs.Rounds.{slot-none, slot-next}
 use Rattle.record.proofs.Laying.{sets-more}
 
 module _ (base v : ℕ) where
   pub length-stamped : (l : List ℕ) (m n : ℕ) → length (stamped base l m n v) ≡ length l

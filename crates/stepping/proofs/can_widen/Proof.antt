@@ -1,11 +1,11 @@
 -- `can_widen` meets its contract: each of its three tests is the rule's.
 use borrow.Author.Needs.{needs}
-use Rattle.record.proofs.Record.can_widen.Statement.{statement}
-use Rattle.record.proofs.Record.can_widen.Tie as tie
-use Rattle.record.proofs.Record.can_widen.Reads as reads
-use Rattle.record.proofs.Record.can_widen.Lts as lts
+use Rattle.stepping.proofs.can_widen.Statement.{statement}
+use Rattle.stepping.proofs.can_widen.Tie as tie
+use Rattle.stepping.proofs.can_widen.Reads as reads
+use Rattle.stepping.proofs.can_widen.Lts as lts
 use Rattle.record.proofs.Record.span.Reads as span-reads
 use Rattle.record.proofs.lent_enough.Reads as lent-enough-reads
 use Rattle.ring.proofs.Seq.steps.Reads as steps-reads
 
 lent-enough-requires : tie.Need-lent-enough-requires

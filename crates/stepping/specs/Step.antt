@@ -9,14 +9,14 @@ use lib.Dec.{leb}
 use Rattle.ring.specs.Ring.{steps, next, rising}
 use Rattle.larq.specs.Channel.{window}
 use Rattle.larq.specs.Table.{Lent, lentEnough}
 use Rattle.record.specs.Buffers.{Laid}
 use Rattle.record.specs.Place.{lentOf}
 use Rattle.record.specs.Moving.{spanIn, IsGrown}
 use Rattle.record.specs.Walk.{waitingOf}
 use Rattle.record.specs.declared.Record.{Record}
 use Rattle.record.specs.declared.Grown.{Grown}
-use Rattle.record.specs.declared.step.Counts.{Counts}
-use Rattle.record.specs.declared.step.Passed.{Passed}
+use Rattle.stepping.specs.declared.Counts.{Counts}
+use Rattle.stepping.specs.declared.Passed.{Passed}
 
 -- a list with v at the slots of n numbers from m on, of which the first slot stands at index base
 unfoldable pub stamped : ℕ → List ℕ → ℕ → ℕ → ℕ → List ℕ

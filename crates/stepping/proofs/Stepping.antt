@@ -11,15 +11,15 @@ use Rattle.wire.proofs.Joined.{and-left, and-right}
 use Rattle.ring.specs.Ring.{steps}
 use Rattle.larq.specs.Channel as channel
 use Rattle.larq.specs.Table.{lentEnough}
 use Rattle.record.specs.Buffers.{Laid}
 use Rattle.record.specs.Place.{lentOf}
 use Rattle.record.specs.Moving.{spanIn, IsGrown}
-use Rattle.record.specs.Step.{canStep}
+use Rattle.stepping.specs.Step.{canStep}
 use Rattle.record.specs.Walk.{waitingOf, handNumbers}
 use Rattle.record.specs.declared.Record.{Record}
 use Rattle.record.specs.declared.Grown.{Grown}
 use Rattle.record.proofs.Sizes.{Enough, enough-of}
 use Rattle.record.proofs.Waiting.{waiting-short, hands-all}
 
 -- a test has one answer
 pub not-both : {A : Type 0} (b : Bool) → b ≡ true → b ≡ false → A
