@@ -1,14 +1,28 @@
 -- Where the number of a frame lies, before its distance is taken. Assumes nothing.
 use Prim.Native.Nat.{ℕ}
 use mathlib.Core.Path.{_≡_}
+use mathlib.Core.Bool.{Bool, true, false, _&&_}
 use native.Mathlib.Omega.{arith}
-use Rattle.ring.specs.Ring.{steps, seen, Ahead}
+use Rattle.ring.specs.Ring.{steps}
 use Rattle.ring.proofs.Sides.{is-ahead}
 use Rattle.larq.specs.Channel as channel
 use Rattle.larq.specs.Channel.{reach}
-use Rattle.record.specs.Place.{spanOf}
+use Rattle.record.specs.Moving.{spanIn}
+use Rattle.record.specs.declared.Record.{Record}
+use Rattle.judging.specs.Judge.{NextAt}
 
 -- M is one ahead of C where nothing is missing
-pub next-is-ahead : (c m s : ℕ) → s ≡ m → spanOf c m ≡ 0 → seen (reach channel.window) c s ≡ Ahead 1
-next-is-ahead c m s e none =
-    let one : steps c s ≡ 1 = omega arith in is-ahead (reach channel.window) c s (omega arith) 1 (omega arith) (omega arith) one
+pub next-at : (r : Record) (s : ℕ) → s ≡ r .oldest .0 → spanIn r ≡ 0 → NextAt r s
+next-at r s same none =
+    let one : steps (r .current .0) s ≡ 1 = omega arith in
+    record {
+      is = is-ahead (reach channel.window) (r .current .0) s (omega arith) 1 (omega arith) (omega arith) one;
+      oldest = same;
+      none = none;
+    }
+
+-- a test of both does not fail where each holds
+pub both-hold : (a b : Bool) → a ≡ true → b ≡ true → a && b ≡ false → ⊥
+both-hold true true e f g = let z : _≡_ {A = ℕ} 0 1 = cc in omega arith
+both-hold true false e f g = let z : _≡_ {A = ℕ} 0 1 = cc in omega arith
+both-hold false b e f g = let z : _≡_ {A = ℕ} 0 1 = cc in omega arith

@@ -70,13 +70,20 @@ pub record KnownAt (r : Record) (marks : List ℕ) (s : ℕ) : Type 0 where
   pub behind : BehindAt (r .current .0) s
   pub known : (spanIn r ≤ steps (r .oldest .0) s) ⊎ ((steps (r .oldest .0) s < spanIn r) × (getD marks (s % 32) 0 ≡ 0 → ⊥))
 
+-- M, while nothing is missing
 pub record NextAt (r : Record) (s : ℕ) : Type 0 where
   pub is : seen (reach window) (r .current .0) s ≡ Ahead 1
+  pub oldest : s ≡ r .oldest .0
   pub none : spanIn r ≡ 0
+
+-- any other number that lies ahead of C
+pub record AheadAt (r : Record) (s d : ℕ) : Type 0 where
+  pub is : seen (reach window) (r .current .0) s ≡ Ahead d
+  pub other : s ≡ r .oldest .0 → spanIn r ≡ 0 → ⊥
 
 abbrev pub LiesAt : Record → List ℕ → ℕ → Spot → Type 0
 LiesAt r marks s spot.Next = NextAt r s
-LiesAt r marks s (spot.Ahead d) = seen (reach window) (r .current .0) s ≡ Ahead d
+LiesAt r marks s (spot.Ahead d) = AheadAt r s d
 LiesAt r marks s spot.Missing = MissingAt r marks s
 LiesAt r marks s spot.Known = KnownAt r marks s
 LiesAt r marks s spot.Far = seen (reach window) (r .current .0) s ≡ Far

@@ -1,2 +1,3 @@
 pub mod Stamping
 pub mod Stepping
+pub mod Settled

@@ -1,12 +1,10 @@
 -- A table of zeros is the empty table: every place of it is free. Assumes nothing.
-use Prim.Native.Nat.{ℕ, zero, suc, _+_, _-_, _*_, _≤_, _<_}
+use Prim.Native.Nat.{ℕ, zero, suc, _+_, _-_, _*_, _≤_}
 use mathlib.Core.Path.{_≡_, refl, ap, _∙_}
 use mathlib.Core.Bool.{true, false}
-use mathlib.Core.List.{List, _∷_, _++_, append-nil}
+use mathlib.Core.List.{List, _∷_}
 use native.Mathlib.Omega.{arith}
-use borrow.Author.Fill.{fill-more}
-use lib.ListN.{length, set, take, drop, replicate, length-set}
-use lib.Seq.{drop-length}
+use lib.ListN.{length, take, replicate}
 use Rattle.larq.specs.Table.{free, Table}
 use Rattle.larq.specs.Run.{empty}
 use Rattle.record.proofs.Appending.{drop-replicate}

@@ -1,6 +1,9 @@
 -- `arrive` meets its contract: by where the number lies (Frames).
+use Prim.Native.Nat.{ℕ}
 use mathlib.Core.Path.{_≡_, subst}
 use native.Mathlib.Omega.{arith}
+use Rattle.ring.specs.Ring.{seen, Ahead}
+use Rattle.larq.specs.Channel.{window, reach}
 use Rattle.judging.specs.Judge.{LiesAt}
 use Rattle.judging.specs.declared.Spot.{Spot}
 use Rattle.judging.specs.declared.Spot.the-variants.{Next, Missing, Known, Far}
@@ -26,6 +29,10 @@ lies : (c : tie.After-spot-of) (x : Spot) → c .spot-of .result ≡ x
     → LiesAt (at-entry c .args .r) (at-entry c .args .marks .now) (at-entry c .args .s .0) x
 lies c x e = subst (LiesAt (at-entry c .args .r) (at-entry c .args .marks .now) (at-entry c .args .s .0)) e (c .spot-of .ensures)
 
+ahead-by : (c : tie.After-spot-of) (d : ℕ) → c .spot-of .result ≡ Spot.Ahead d
+    → seen (reach window) (at-entry c .args .r .current .0) (at-entry c .args .s .0) ≡ Ahead d
+ahead-by c d e = lies c (Spot.Ahead d) e .is
+
 spot-of-requires : tie.Need-spot-of-requires
 spot-of-requires c κs = search needs
 
@@ -36,14 +43,14 @@ sub-ahead : tie.Need-sub-ahead
 sub-ahead c =
     let l = c .before .before .before .before .before .before .before .before in
     let a = at-entry l .args in
-    ahead-some (a .r .current .0) (a .s .0) _ (lies l _ (c .before .before .before .before .before .before .d .given .1))
+    ahead-some (a .r .current .0) (a .s .0) _ (ahead-by l _ (c .before .before .before .before .before .before .d .given .1))
 
 ahead-requires : tie.Need-ahead-requires
 ahead-requires c κs =
     let l = c .before .before .before .before .before .before .before .before in
     let a = at-entry l .args in
     let p = at-entry l .pre in
-    (p .0, ((p .1 .0, p .1 .2), ahead-frame (a .r .current .0) (a .s .0) _ (lies l _ (c .before .before .before .before .before .before .d .given .1)) (a .handle)))
+    (p .0, ((p .1 .0, p .1 .2), ahead-frame (a .r .current .0) (a .s .0) _ (ahead-by l _ (c .before .before .before .before .before .before .d .given .1)) (a .handle)))
 
 accepted-requires : tie.Need-accepted-requires
 accepted-requires c κs = search needs
@@ -98,7 +105,7 @@ returns c =
     let l = c .before .before .before .before .before .before .before .before .before .before .before .before .before .before .before .before .before .before .before .before in
     let a = at-entry l .args in
     let p = at-entry l .pre in
-    frame-ahead (a .s .0) (a .handle) (a .time) (p .0 .0) (a .returned .now) (lies l _ (c .before .before .before .before .before .before .before .before .before .before .before .before .before .before .before .before .before .before .d .given .1)) (c .before .before .before .before .before .before .before .before .before .before .before .ahead .ensures) (c .accepted .ensures)
+    frame-ahead (a .s .0) (a .handle) (a .time) (p .0 .0) (a .returned .now) (ahead-by l _ (c .before .before .before .before .before .before .before .before .before .before .before .before .before .before .before .before .before .before .d .given .1)) (c .before .before .before .before .before .before .before .before .before .before .before .ahead .ensures) (c .accepted .ensures)
 
 same-length-6 : tie.Need-same-length-6
 same-length-6 c = search needs

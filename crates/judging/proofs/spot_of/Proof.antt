@@ -4,13 +4,13 @@ use mathlib.Core.Path.{_≡_, sym, _∙_}
 use mathlib.Core.Logic.{inl, inr}
 use Prim.Native.Nat.{_<_}
 use lib.Dec.{eqb}
-use borrow.Author.Tests.{eqb-true}
+use borrow.Author.Tests.{eqb-true, eq-eqb}
 use Rattle.ring.specs.Ring.{steps}
 use Rattle.ring.proofs.Sides.{seen-far, seen-ahead, seen-behind}
 use Rattle.judging.specs.Judge.{BehindAt}
 use Rattle.record.specs.Moving.{spanIn}
 use Rattle.wire.proofs.Joined.{and-left, and-right}
-use Rattle.judging.proofs.Spots.{next-is-ahead}
+use Rattle.judging.proofs.Spots.{next-at, both-hold}
 use borrow.Author.Needs.{needs}
 use Rattle.judging.proofs.spot_of.Statement.{statement}
 use Rattle.judging.proofs.spot_of.Tie as tie
@@ -23,7 +23,7 @@ returns c =
     let a = c .before .before .before .before .before .before .before .args in
     let is-oldest = eqb (a .s .0) (a .r .oldest .0) in
     let none : spanIn (a .r) ≡ 0 = sym (c .before .before .before .span .ensures) ∙ eqb-true _ 0 (and-right is-oldest _ (c .if1 .taken)) in
-    record { is = next-is-ahead (a .r .current .0) (a .r .oldest .0) (a .s .0) (eqb-true _ _ (and-left is-oldest _ (c .if1 .taken))) none; none = none }
+    next-at (a .r) (a .s .0) (eqb-true _ _ (and-left is-oldest _ (c .if1 .taken))) none
 
 distance-requires : tie.Need-distance-requires
 distance-requires c κs = search needs
@@ -41,7 +41,15 @@ steps-requires : tie.Need-steps-requires
 steps-requires c κs = search needs
 
 returns-3 : tie.Need-returns-3
-returns-3 c = rw (c .steps .ensures) (seen-ahead _ _ (rw (c .before .before .is-ahead .ensures, c .before .before .before .before .before .distance .ensures) at (c .before .if3 .taken)))
+returns-3 c =
+    let a = c .before .before .before .before .before .before .before .before .before .before .before .before .before .args in
+    record {
+      is = rw (c .steps .ensures) (seen-ahead _ _ (rw (c .before .before .is-ahead .ensures, c .before .before .before .before .before .distance .ensures) at (c .before .if3 .taken)));
+      other =
+          λ same none. both-hold _ _ (eq-eqb (a .s .0) (a .r .oldest .0) same)
+          (eq-eqb _ 0 (c .before .before .before .before .before .before .before .before .before .span .ensures ∙ none))
+          (c .before .before .before .before .before .before .if1 .left);
+    }
 
 -- past the tests of the distance
 behind : (c : tie.Else3) → BehindAt (c .before .before .before .before .before .before .before .before .before .before .before .before .args .r .current .0) (c .before .before .before .before .before .before .before .before .before .before .before .before .args .s .0)

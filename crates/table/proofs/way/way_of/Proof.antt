@@ -3,10 +3,8 @@ use mathlib.Core.Path.{_≡_, ap, sym, _∙_}
 use borrow.Author.Needs.{needs}
 use denote.Ref.{now}
 use lib.ListN.{length}
-use Rattle.larq.specs.Table.{Lent}
 use Rattle.table.specs.First.{firstPlace, stores}
 use Rattle.table.specs.Way.{lentOf, judged, waySays, wayFor}
-use Rattle.table.specs.declared.lookup.Found.{Found}
 use Rattle.table.specs.declared.way.Way.{Way}
 use Rattle.table.proofs.Ways.{wayBy, keys-sized, way-early, way-none, way-known}
 use Rattle.table.proofs.Saying.{way-says}
