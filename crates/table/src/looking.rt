@@ -16,6 +16,7 @@ use crate::key::address;
 use crate::key::first_word;
 use crate::way::Way;
 use crate::way::way_of;
+use record::slot;
 use ring::Seq;
 
 // What a look tells: C, M, the latest time, and how many numbers there are from M to C.
@@ -81,7 +82,7 @@ fn tell(
     let mut left = n;
     let mut to: usize = 0;
     while 0 < left {
-        let j = (i.0 % 32) as usize;
+        let j = slot(i);
         waits[to] = mark_at(marks, j);
         values[to] = value_at(words, handles, marks, j);
         to += 1;

@@ -17,6 +17,7 @@ use crate::lookup::Found;
 use crate::lookup::find;
 use crate::lookup::find_free;
 use larq::WINDOW;
+use ring::Seq;
 
 // The lengths of a table's other slices.
 const WORDS_IN_ALL: usize = WORDS * PLACES;
@@ -69,7 +70,7 @@ fn judge(
     if !(has_room(up, returned, nack) & is_whole(keys, words, handles, marks)) {
         return 1;
     }
-    if number > 4095 {
+    if Seq::SIZE <= number {
         return 2;
     }
     if priority > 7 {

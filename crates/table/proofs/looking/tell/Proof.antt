@@ -1,6 +1,5 @@
 -- `tell` meets its contract: at each turn both buffers still lack the cells from here on (Telling, `Tells`).
-use Prim.Native.Nat.{_%_}
-use mathlib.Core.Path.{refl, _∙_}
+use mathlib.Core.Path.{_∙_}
 use borrow.Author.Needs.{needs}
 use denote.Ref.{now}
 use Rattle.record.specs.Place.{cellAt}
@@ -19,8 +18,8 @@ abbrev μ-loop : tie.MeasureT-loop
 loop-holds : tie.Need-loop-holds Inv-loop μ-loop
 loop-holds c = (tells-start _ _ _ _ _, tells-start _ _ _ _ _)
 
-cast-j : tie.Need-cast-j Inv-loop μ-loop
-cast-j c = search needs
+slot-requires : tie.Need-slot-requires Inv-loop μ-loop
+slot-requires c κs = search needs
 
 mark-at-requires : tie.Need-mark-at-requires Inv-loop μ-loop
 mark-at-requires c κs = search needs
@@ -53,9 +52,10 @@ loop-again : tie.Need-loop-again Inv-loop μ-loop
 loop-again c =
     let l = c .before .before .before .before .before .loop in
     let a = c .before .before .before .before .before .before .before .before .before .before .before .args in
-    let taken = c .before .before .before .before .loop-test .taken in (
-      tells-more (l .inv .0) _ _ _ taken refl (c .before .before .mark-at .ensures ∙ mark-alone (now (a .words)) (now (a .handles)) (now (a .marks)) (l .i .0 % 32)) (c .forward .ensures),
-      tells-more (l .inv .1) _ _ _ taken refl (c .before .value-at .ensures) (c .forward .ensures),
+    let taken = c .before .before .before .before .loop-test .taken in
+    let at = c .before .before .before .slot in (
+      tells-more (l .inv .0) _ _ _ taken (at .ensures) (c .before .before .mark-at .ensures ∙ mark-alone (now (a .words)) (now (a .handles)) (now (a .marks)) (at .result)) (c .forward .ensures),
+      tells-more (l .inv .1) _ _ _ taken (at .ensures) (c .before .value-at .ensures) (c .forward .ensures),
     )
 
 same-length : tie.Need-same-length Inv-loop μ-loop
@@ -74,7 +74,7 @@ tell-spec =
     Inv-loop
     μ-loop
     loop-holds
-    cast-j
+    slot-requires
     mark-at-requires
     slice-write-waits
     value-at-requires

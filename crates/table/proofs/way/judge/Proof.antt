@@ -1,6 +1,7 @@
 -- `judge` meets its contract: it makes the three tests of the list, in its order.
 use mathlib.Core.Path.{_≡_, ap₂, sym, _∙_}
 use mathlib.Core.Bool.{true, _&&_}
+use native.Mathlib.Omega.{arith}
 use borrow.Author.Needs.{needs}
 use borrow.Author.Tests.{not-true, not-false, le-leb, lt-leb}
 use Rattle.larq.specs.Channel.{window}
@@ -34,11 +35,11 @@ returns-2 c = rw (enough (c .before), lt-leb _ _ (c .if2 .taken))
 
 returns-3 : tie.Need-returns-3
 unfolding judged
-returns-3 c = rw (enough (c .before .before), le-leb _ _ (c .before .if2 .left), lt-leb _ _ (c .if3 .taken))
+returns-3 c = rw (enough (c .before .before), le-leb (c .before .before .before .before .before .args .number) 4095 (omega (arith, c .before .if2 .left)), lt-leb _ _ (c .if3 .taken))
 
 returns-4 : tie.Need-returns-4
 unfolding judged
-returns-4 c = rw (enough (c .before .before), le-leb _ _ (c .before .if2 .left), le-leb _ _ (c .if3 .left))
+returns-4 c = rw (enough (c .before .before), le-leb (c .before .before .before .before .before .args .number) 4095 (omega (arith, c .before .if2 .left)), le-leb _ _ (c .if3 .left))
 
 pub judge-spec : {M : Type 1} → statement M
 judge-spec = tie.close (tie.spec has-room-requires is-whole-requires returns returns-2 returns-3 returns-4)
