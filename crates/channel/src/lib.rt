@@ -1,7 +1,6 @@
 // One place of the table: a data frame comes to one open channel, in place. The events that bring no frame are upkeep's.
 ghost use mathlib.Core.Path.{_≡_};
 ghost use Prim.Native.Nat.{_≤_, _<_};
-ghost use mathlib.Core.List.{[]};
 ghost use lib.ListN.{length};
 ghost use Rattle.larq.specs.Events.{frame};
 ghost use Rattle.channel.specs.Call.{Says, Did, Called, parts, buffers};

@@ -9,7 +9,7 @@ use native.Mathlib.Decide.{decLt}
 use lib.Dec.{T}
 use borrow.Author.Tests.{lt-ltb, le-ltb}
 use Rattle.ring.specs.Ring.{size, half, steps, signed, distance, side, seen, Side, Ahead, Behind, Far, isFar, isAhead}
-use Rattle.ring.proofs.Steps.{steps-mod, steps-up}
+use Rattle.ring.proofs.Steps.{steps-up}
 use Rattle.ring.proofs.Halves.{lower, upper}
 
 -- What each side tells: of the steps from c to s, and of those back from s to c.
@@ -118,11 +118,6 @@ module _ (a b : ℕ) where
 
   pub seen-behind : isFar (seen 64 a b) ≡ false → isAhead (seen 64 a b) ≡ false → (d : ℕ) × (seen 64 a b ≡ Behind d)
   seen-behind = behind-side (seen 64 a b)
-
--- Numbers count modulo the ring's size.
-pub seen-mod : (reach c s : ℕ) → seen reach (c % size) (s % size) ≡ seen reach c s
-unfolding distance
-seen-mod reach c s = ap (sideOf reach) (steps-mod c s)
 
 -- Counts that never wrap, as a sender has them: where u lies as seen from hi, each by its ring number.
 module _ (reach hi u : ℕ) (short : reach < half) where

@@ -6,15 +6,9 @@ use native.Mathlib.Omega.{arith}
 use lib.ListN.{length, drop}
 use Rattle.ring.specs.Ring.{size, forward, next, steps, rising}
 
--- Results lie in the ring, and a number counts modulo its size.
+-- Results lie in the ring.
 pub forward-small : (a n : ℕ) → forward a n < size
 forward-small a n = omega arith
-
-pub steps-small : (a b : ℕ) → steps a b < size
-steps-small a b = omega arith
-
-pub steps-mod : (a b : ℕ) → steps (a % size) (b % size) ≡ steps a b
-steps-mod a b = omega arith
 
 -- Forward by the steps to b is b, and nothing less than a round but those steps leads there.
 pub forward-steps : (a b : ℕ) → forward a (steps a b) ≡ b % size
@@ -28,20 +22,6 @@ forward-forward a m n = omega arith
 
 pub steps-self : (a : ℕ) → steps a a ≡ 0
 steps-self a = omega arith
-
-pub steps-zero : (a b : ℕ) → steps a b ≡ 0 → a % size ≡ b % size
-steps-zero a b e = omega arith
-
--- there and back is a round
-pub steps-back : (a b : ℕ) → 0 < steps a b → steps a b + steps b a ≡ size
-steps-back a b h = omega arith
-
--- One step more, and one less.
-pub steps-next : (a b : ℕ) → suc (steps a b) < size → steps a (next b) ≡ suc (steps a b)
-steps-next a b h = omega arith
-
-pub next-steps : (a b : ℕ) → 0 < steps a b → suc (steps (next a) b) ≡ steps a b
-next-steps a b h = omega arith
 
 -- Counts that never wrap, as a sender has them: the count n has the ring number n % size.
 pub next-mod : (n : ℕ) → next (n % size) ≡ suc n % size

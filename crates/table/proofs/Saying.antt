@@ -3,10 +3,10 @@
 use Prim.Native.Nat.{ℕ}
 use mathlib.Core.Path.{_≡_, refl, ap, sym, _∙_}
 use mathlib.Core.Bool.{Bool, true, false, _||_}
-use mathlib.Core.List.{List, [], _∷_}
+use mathlib.Core.List.{List, [], _∷_, _++_}
 use native.Mathlib.Omega.{arith}
 use lib.Dec.{leb}
-use Rattle.wire.specs.Refusals.{_else_, first, answered}
+use Rattle.wire.specs.Refusals.{Refusal, _else_, first, answered}
 use Rattle.wire.specs.Answers.{Said, accepted, refused}
 use Rattle.larq.specs.Channel.{window}
 use Rattle.larq.specs.Table.{Key, Lent, lentEnough}
@@ -18,9 +18,12 @@ use Rattle.table.specs.declared.way.Way.{Way}
 use Rattle.table.specs.declared.way.DataWay.{DataWay}
 use Rattle.table.proofs.Ways.{wayBy, dataWayBy}
 
--- by whether the tests of 1, 2 and 3 pass
-by-tests : (a b c : Bool) (place : Found) → waySays (wayBy (first ((a else 1) ∷ ((b else 2) ∷ ((c else 3) ∷ [])))) place)
-    ≡ answered refused ((a else 1) ∷ ((b else 2) ∷ ((c else 3) ∷ ((isFound place else 4) ∷ [])))) (accepted (placesOf place))
+-- the tests of 1, 2 and 3, by whether they pass
+abbrev tests : Bool → Bool → Bool → List Refusal
+tests a b c = (a else 1) ∷ ((b else 2) ∷ ((c else 3) ∷ []))
+
+by-tests : (a b c : Bool) (place : Found) → waySays (wayBy (first (tests a b c)) place)
+    ≡ answered refused (tests a b c ++ ((isFound place else 4) ∷ [])) (accepted (placesOf place))
 unfolding wayBy
 by-tests false b c place = refl
 by-tests true false c place = refl
@@ -33,8 +36,8 @@ pub way-says : (l : Lent) (number priority : ℕ) (place : Found)
 unfolding judged
 way-says l number priority place = by-tests (lentEnough window l) (leb number 4095) (leb priority 7) place
 
-data-by-tests : (a b c : Bool) (place spare : Found) → dataWaySays (dataWayBy (wayBy (first ((a else 1) ∷ ((b else 2) ∷ ((c else 3) ∷ [])))) place) spare)
-    ≡ answered refused ((a else 1) ∷ ((b else 2) ∷ ((c else 3) ∷ ((isFound place || isFound spare else 5) ∷ [])))) (accepted (leadsTo place spare))
+data-by-tests : (a b c : Bool) (place spare : Found) → dataWaySays (dataWayBy (wayBy (first (tests a b c)) place) spare)
+    ≡ answered refused (tests a b c ++ ((isFound place || isFound spare else 5) ∷ [])) (accepted (leadsTo place spare))
 unfolding wayBy dataWayBy
 data-by-tests false b c place spare = refl
 data-by-tests true false c place spare = refl

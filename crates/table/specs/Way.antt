@@ -1,7 +1,7 @@
 -- Where an event goes: to a place, or nowhere, by a number that no record has a part in.
 -- Document 01, 'Numbers the box may answer with', 1 to 5.
 use Prim.Native.Nat.{ℕ}
-use mathlib.Core.List.{List, [], _∷_}
+use mathlib.Core.List.{List, [], _∷_, _++_}
 use mathlib.Core.Bool.{Bool, true, false, _||_}
 use lib.Dec.{leb}
 use Rattle.wire.specs.Refusals.{Refusal, _else_, first, answered}
@@ -20,9 +20,13 @@ abbrev pub lentOf : ℕ → ℕ → ℕ → ℕ → ℕ → ℕ → ℕ → Lent
 lentOf keys words handles marks up returned nack =
     record { up = up; returned = returned; nack = nack; whole = whole keys words handles marks }
 
--- the numbers 1 to 3, which are decided before the table is looked at, or 0
+-- the tests of numbers 1 to 3, which are made before the table is looked at
+abbrev pub early : Lent → ℕ → ℕ → List Refusal
+early l number priority = (lentEnough window l else 1) ∷ ((leb number 4095 else 2) ∷ ((leb priority 7 else 3) ∷ []))
+
+-- the number that they lead to, or 0
 unfoldable pub judged : Lent → ℕ → ℕ → ℕ
-judged l number priority = first ((lentEnough window l else 1) ∷ ((leb number 4095 else 2) ∷ ((leb priority 7 else 3) ∷ [])))
+judged l number priority = first (early l number priority)
 
 -- the first place that stores a key
 abbrev pub placeFor : List ℕ → Key → Found
@@ -56,12 +60,10 @@ leadsTo Found.Nothing spare = 1 ∷ placesOf spare
 
 -- the refusals of a reminder, tick or close, and those of data, that no record has a part in; `place` is the key's, `spare` the free one
 abbrev pub wayRefusals : Lent → ℕ → ℕ → Found → List Refusal
-wayRefusals l number priority place =
-    (lentEnough window l else 1) ∷ ((leb number 4095 else 2) ∷ ((leb priority 7 else 3) ∷ ((isFound place else 4) ∷ [])))
+wayRefusals l number priority place = early l number priority ++ ((isFound place else 4) ∷ [])
 
 abbrev pub dataWayRefusals : Lent → ℕ → ℕ → Found → Found → List Refusal
-dataWayRefusals l number priority place spare =
-    (lentEnough window l else 1) ∷ ((leb number 4095 else 2) ∷ ((leb priority 7 else 3) ∷ ((isFound place || isFound spare else 5) ∷ [])))
+dataWayRefusals l number priority place spare = early l number priority ++ ((isFound place || isFound spare else 5) ∷ [])
 
 -- what is to be said of where such an event goes: the first number that refuses it, or the place of its channel
 abbrev pub wayFor : Lent → ℕ → ℕ → Found → Said

@@ -1,11 +1,8 @@
 // Where an event goes, decided before anything is written: numbers 1 to 5 of document 01, 'Numbers the box may answer with', in its order.
 ghost use mathlib.Core.Path.{_≡_};
-ghost use Prim.Native.Nat.{_<_};
 ghost use lib.ListN.{length};
 ghost use lib.Dec.{leb};
 ghost use mathlib.Core.Bool.{_&&_};
-ghost use Rattle.larq.specs.Channel.{window};
-ghost use Rattle.larq.specs.Table.{lentEnough};
 ghost use Rattle.table.specs.First.{firstPlace, stores, storesNone};
 ghost use Rattle.table.specs.Table.{whole};
 ghost use Rattle.table.specs.Way.{lentOf, judged, waySays, wayFor, dataWaySays, dataWayFor};
@@ -79,7 +76,7 @@ fn judge(
     0
 }
 
-// Where reminder, tick and close go, by the two words of their key. An event that has no number is judged as if it had number 0.
+// Where a reminder, a tick, a close and a look go, by the two words of their key. What has no number is judged as if it had number 0.
 pub fn way_of(
     keys: &[u64],
     words: usize,

@@ -1,6 +1,5 @@
 // The channel events on the table that the host lends, the empty table, and a look at a channel's record (document 01, 'The channel table'
 // and 'The four channel events'). Slices and addresses are passed on as they come.
-ghost use mathlib.Core.Path.{_≡_};
 ghost use Rattle.larq.specs.Events.{frame, reminder, tick, close};
 ghost use Rattle.channel.specs.Call.{buffers};
 ghost use Rattle.table.specs.Emptied.{Emptied};
