@@ -8,7 +8,7 @@ use mathlib.Core.List.{List, [], _∷_, _++_, append-nil}
 use native.Mathlib.Omega.{arith}
 use lib.ListN.{length, replicate, length-append, length-replicate, length-drop}
 use lib.Dec.{leb}
-use borrow.Author.Tests.{leb-true, le-leb, ltb-false}
+use borrow.Author.Tests.{leb-true, ltb-false}
 use Rattle.ring.specs.Ring.{forward, next, steps, Side, Ahead, Behind, Far}
 use Rattle.ring.proofs.Sides.{Seen, sees}
 use Rattle.ring.proofs.Steps.{forward-forward, forward-steps}
@@ -49,10 +49,6 @@ sound-is w c e =
       head = f .0;
       times = f .1;
     }
-
-pub sound-of : {H : Type 0} (w : ℕ) (c : Channel H) → Sound w c → sound w c ≡ true
-unfolding sound
-sound-of w c p = rw (le-leb (c .current) 4095 (p .current), le-leb (c .oldest) 4095 (p .oldest), le-leb (length (c .cells)) w (p .short), p .head, p .times)
 
 -- a record that a table may hold: sound, and its cells reach from M to C
 pub record Good {H : Type 0} (w : ℕ) (c : Channel H) : Type 0 where

@@ -1,9 +1,9 @@
 -- Steps round the ring, over natural numbers alone: how `forward` and `steps` undo each other, and what they come to on counts
 -- that never wrap. Document 01, 'Numbers in a ring of 4,096': sums of sequence numbers are taken in the ring.
 use Prim.Native.Nat.{ℕ, zero, suc, _+_, _-_, _%_, _≤_, _<_}
-use mathlib.Core.Path.{_≡_, refl, ap, _∙_}
+use mathlib.Core.Path.{_≡_, refl, ap}
 use native.Mathlib.Omega.{arith}
-use lib.ListN.{length, drop}
+use lib.ListN.{length}
 use Rattle.ring.specs.Ring.{size, forward, next, steps, rising}
 
 -- Results lie in the ring.
@@ -44,14 +44,3 @@ same-count n u l h e = omega arith
 pub length-rising : (s k : ℕ) → length (rising s k) ≡ k
 length-rising s zero = refl
 length-rising s (suc k) = ap suc (length-rising (next s) k)
-
-rising-same : (a b j k : ℕ) → a ≡ b → j ≡ k → rising a j ≡ rising b k
-rising-same a b j k p q = cc
-
--- what is left of them past the first j
-pub drop-rising : (s j k : ℕ) → s < size → drop j (rising s k) ≡ rising (forward s j) (k - j)
-drop-rising s zero k h = rising-same s (forward s 0) k (k - 0) (omega arith) (omega arith)
-drop-rising s (suc j) zero h = rising-same (forward s (suc j)) (forward s (suc j)) 0 (0 - suc j) refl (omega arith)
-drop-rising s (suc j) (suc k) h =
-    drop-rising (next s) j k (omega arith)
-    ∙ rising-same (forward (next s) j) (forward s (suc j)) (k - j) (suc k - suc j) (omega arith) (omega arith)
