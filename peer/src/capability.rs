@@ -64,7 +64,7 @@ pub struct Station {
 }
 
 impl Station {
-    /// A fresh station: NewTx is the default, the rest are empty.
+    /// A fresh station: the default stands in NewTx, and nothing in the other four.
     pub fn fresh(default: Set) -> Station {
         Station {
             default,

@@ -105,7 +105,7 @@ impl Table {
         Ok(record.tick(time))
     }
 
-    /// A close: what waits comes back in sequence order, and the place is free from then on.
+    /// A close: what waits comes back in sequence order; from then on its place is free.
     pub fn close(&mut self, buffers: Buffers, key: &Key, time: u64) -> Result<Answer, Number> {
         refuse(1, buffers.some_too_short())?;
         let returned = self.record_for(key, time)?.waiting();

@@ -106,7 +106,7 @@ impl Record {
         answer
     }
 
-    /// 'While the span exceeds 32 or M waits.' At span 0 neither holds, so there it stops.
+    /// M is passed as long as it waits, or the window is too wide. At span 0 neither holds, so there it stops.
     fn settle(&mut self, answer: &mut Answer) {
         while self.span() > ring::WINDOW || self.oldest_waits() {
             self.pass_oldest(answer);

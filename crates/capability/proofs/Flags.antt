@@ -105,7 +105,7 @@ module _ (i : ℕ) (below : i < 32) (r : Rx) (f : Frame) where
       → (i isIn reallyNew r f) ↔ ((i isIn f .current) × (i isNotIn r .new) × (i isNotIn r .previous))
   really-new-exactly hn hp = in-first-alone i (f .current) (r .new) (r .previous) below hn hp
 
-  -- taken away exactly if in its OldestTx and not in its CurrentTx (6-4, which also asks that its CurrentRx lacks it)
+  -- taken away exactly if its OldestTx has it and its CurrentTx lacks it (6-4, which also asks that its CurrentRx lacks it)
   pub taken-exactly : Word (f .current) → (i isIn takenAway f) ↔ ((i isIn f .oldest) × (i isNotIn f .current))
   unfolding takenAway
   taken-exactly hc = in-without i (f .oldest) (f .current) below hc

@@ -41,7 +41,7 @@ used s f = accepted (afterUse s f) (announced (s .tx) f) 0 (startIf (announced (
 
 -- ---- period end
 
--- OldestTx = PreviousTx, PreviousTx = NewTx, NewTx = default
+-- each set goes to the next older one, and NewTx begins again with the default
 abbrev pub rolledTx : ℕ → Tx → Tx
 rolledTx d t = record { oldest = t .previous; previous = t .new; new = d }
 
@@ -56,7 +56,7 @@ afterEnd s = record { default = s .default; tx = rolledTx (s .default) (s .tx); 
 abbrev pub differs : Tx → Bool
 differs t = not (eqb (currentTx t) (t .oldest))
 
--- a frame is sent; the timer is cancelled, and started exactly if the sets, as they now are, differ
+-- a frame is sent; the timer is cancelled, and where the new sets differ, and only there, it is started
 abbrev pub ended : Station → Outcome
 ended s = accepted (afterEnd s) true 0 (cancelThenStartIf (differs (afterEnd s .tx)))
 
@@ -66,18 +66,18 @@ ended s = accepted (afterEnd s) true 0 (cancelThenStartIf (differs (afterEnd s .
 abbrev pub reallyNew : Rx → Frame → ℕ
 reallyNew r f = f .current without currentRx r
 
--- those in its OldestTx and not in its CurrentTx
+-- what the sender has dropped: OldestTx still has it, CurrentTx has it no more
 unfoldable pub takenAway : Frame → ℕ
 takenAway f = f .oldest without f .current
 
--- the flags of its CurrentTx are added to NewRx, then those that it takes away leave NewRx and PreviousRx
+-- NewRx takes the CurrentTx of the frame in, then what the frame takes away leaves NewRx and PreviousRx
 abbrev pub heardRx : Rx → Frame → Rx
 heardRx r f = record { new = (r .new with f .current) without takenAway f; previous = r .previous without takenAway f }
 
 abbrev pub afterFrame : Station → Frame → Station
 afterFrame s f = record { default = s .default; tx = s .tx; rx = heardRx (s .rx) f }
 
--- an opcode above 1 is refused by number 30; opcode 1 starts the timer
+-- 0 and 1 are the opcodes, and number 30 refuses any other; opcode 1 starts the timer
 abbrev pub received : Station → ℕ → Frame → Outcome
 received s opcode f =
     cond (ltb 1 opcode) (refused 30 s)

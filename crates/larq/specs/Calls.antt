@@ -1,5 +1,5 @@
--- Calls told apart by their index in a run, so that equal handles are: the words in which document 01 says that each accepted handle is
--- exactly one of handed up, returned, or waiting ('The four channel events', last paragraph).
+-- Calls told apart by their index in a run, so that equal handles are: the words for what becomes of an accepted handle. It goes up, comes back
+-- or still waits, and no two of these (document 01, 'The four channel events', last paragraph).
 use Prim.Native.Nat.{ℕ, zero, suc, _+_}
 use mathlib.Core.Path.{_≡_}
 use mathlib.Core.Bool.{cond}

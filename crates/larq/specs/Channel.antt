@@ -15,7 +15,7 @@ window = 32
 abbrev pub reach : ℕ → ℕ
 reach w = 2 * w
 
--- a number from M to C: it waits, with its handle, or is missing, since the time it was first known missing
+-- a number from M to C: one that waits has a handle, a missing one the time at which it became so
 pub data Cell (H : Type 0) : Type 0 where
   waits : H → Cell H
   missing : ℕ → Cell H

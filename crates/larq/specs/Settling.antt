@@ -37,6 +37,6 @@ wide w t span = ltb w span
 abbrev pub hold : ℕ
 hold = 150
 
--- a tick gives a missing M up if its time is 150 or more ticks ago
+-- a tick gives up an M that is missing for 150 ticks or more
 abbrev pub stale : ℕ → ℕ → ℕ → Bool
 stale now t span = leb (t + hold) now

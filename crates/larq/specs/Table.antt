@@ -50,7 +50,7 @@ putFree p [] = []
 putFree p (free ∷ t) = p ∷ t
 putFree p (held j c ∷ t) = held j c ∷ putFree p t
 
--- the table after a change at a key with these records: a new channel takes the first free place; else the key's first place changes
+-- the table after a change at a key with these records: where the key has none, the first place that is free becomes its own; else the key's first place changes
 abbrev pub changed : {H : Type 0} → Key → Table H → List (Channel H) → Change H → Table H
 changed k t cs same = t
 changed k t [] (holds c) = putFree (held k c) t

@@ -119,7 +119,7 @@ refusals s =
     ∷ (nextEthertypeZero s else 22)
     ∷ []
 
--- a refusal: its number, all fields 0 and no octets
+-- a refusal: the number, and beside it zeros only, without any octets
 abbrev pub refusedBy : ℕ → Reading
 refusedBy n =
     record {

@@ -11,7 +11,7 @@ use Rattle.rate.specs.Request.{opcodeRight, someBand, bandOneRight, band
 use Rattle.rate.specs.declared.Request.{Request}
 use Rattle.rate.specs.declared.Written.{Written}
 
--- SSLength: the octets from SSVersion to the end of Next Ethertype
+-- SSLength: the octets behind its own, up to and with Next Ethertype
 unfoldable pub ssLengthFor : Request → List ℕ → ℕ
 ssLengthFor q a = 6 + 2 * q .bands + length a
 

@@ -14,7 +14,7 @@ ghost use Rattle.wire.specs.Laying.{Lays};
 ghost use Rattle.wire.specs.Refusals.{first};
 ghost use Rattle.rate.specs.Writing.{layoutHolds, absentBandEmpty, bandPart, frameFor, writerRefusals, Layable, Frames, Wrote};
 
-// Writes the request's frame: the longer of the header and 60 octets. Refused, nothing is written.
+// Writes the request's frame: the header, with zeros up to 60 octets where it is shorter. Refused, nothing is written.
 pub fn write(out: &mut [u8], request: Request, addresses: &[u8]) -> Written
     ensures { λ r. ⌜ Wrote request (now (addresses .entry)) (now (out .entry)) (now (out .exit)) r ⌝ }
 {

@@ -1,4 +1,4 @@
-// The place of a key in the table: the first that stores it. A new channel takes the first free place (document 01, 'The channel table').
+// The place of a key in the table: the first that stores it. A channel is opened at the first that is free (document 01, 'The channel table').
 ghost use mathlib.Core.Path.{_≡_};
 ghost use Prim.Native.Nat.{_-_, _<_, _≤_};
 ghost use lib.ListN.{length};

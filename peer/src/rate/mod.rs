@@ -80,7 +80,7 @@ fn check_addresses(addresses: &[u8]) -> Result<(), Number> {
     refuse(21, addresses.chunks(6).any(|address| address[0] % 2 == 0))
 }
 
-/// SSLength of a request: from SSVersion to the end of Next Ethertype.
+/// SSLength of a request: what follows it, up to and with Next Ethertype.
 fn ss_length_for(num_bands: usize, num_addr: usize) -> usize {
     6 + 2 * num_bands + 6 * num_addr
 }

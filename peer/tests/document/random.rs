@@ -96,7 +96,7 @@ fn records(table: &Table) -> impl Iterator<Item = &Record> {
     })
 }
 
-/// The handle of each accepted data call is exactly one of handed up, returned, or waiting. Here each call has its own.
+/// A handle that was accepted has gone up, has come back or still waits, and no two of these. Here each call has its own.
 #[test]
 fn no_handle_is_lost_or_doubled() {
     for seed in 0..20 {
