@@ -8,5 +8,6 @@ pub mod StepBehind
 pub mod Restarting
 pub mod Opening
 pub mod Calling
+pub mod Fronts
 pub mod Frames
 pub mod OneOutcome

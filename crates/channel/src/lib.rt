@@ -18,6 +18,7 @@ use judging::Judged;
 use judging::Spot;
 use judging::judge;
 use judging::spot_of;
+use larq::WINDOW;
 use record::Record;
 use ring::Seq;
 use stepping::Counts;
@@ -58,6 +59,9 @@ pub fn accepted(counts: Counts) -> Answer
     }
 }
 
+// What an answer may need of a buffer. A frame is lent no more of it: with a length that is known, the compiler keeps none at hand.
+const ROOM: usize = WINDOW as usize;
+
 // A data frame comes to the open place: it waits, goes up, comes back or restarts the channel.
 pub fn data(
     words: &mut [u64],
@@ -92,8 +96,8 @@ pub fn data(
             words,
             handles,
             marks,
-            up,
-            returned,
+            &mut up[0..ROOM],
+            &mut returned[0..ROOM],
             nack,
             Seq(number),
             handle,

@@ -2,9 +2,10 @@
 use mathlib.Core.Path.{refl}
 use Rattle.larq.specs.Events.{frame}
 use Rattle.channel.specs.Call.{Parts, Buffers, parts, buffers}
-use Rattle.channel.proofs.Opening.{stopped-by, opened-by, enough, in-ring, ready}
+use Rattle.channel.proofs.Opening.{Opened, stopped-by, opened-by, enough, in-ring, ready}
 use Rattle.channel.proofs.Calling.{called-stopped}
 use Rattle.channel.proofs.Frames.{called-frame}
+use Rattle.channel.proofs.Fronts.{lent-room, front-did}
 use borrow.Author.Needs.{needs}
 use Rattle.channel.proofs.data.Statement.{statement}
 use Rattle.channel.proofs.data.Tie as tie
@@ -33,12 +34,39 @@ refused-requires c κs = search needs
 enum-known-r : tie.Need-enum-known-r
 enum-known-r c = search needs
 
+-- past the numbers that refuse: the record at hand, and the room that is lent
+abbrev start : tie.After-known-told2 → tie.Start
+start c = c .before .before .before .before .before .before .before .before .before .before .before .before
+
+opened : (c : tie.After-known-told2) → Opened (lent (start c)) (lends (start c)) (start c .args .number) (start c .args .time) (c .before .r .given .0 .0)
+opened c =
+    let e = start c in
+    opened-by (lent e) (lends e) (e .args .number) (e .args .time) (c .before .before .before .judge .ensures) (c .before .r .given .1)
+
+sub-arrive : tie.Need-sub-arrive
+sub-arrive c = search needs
+
+part-arrive-start : tie.Need-part-arrive-start
+part-arrive-start c = search needs
+
+part-arrive-end : tie.Need-part-arrive-end
+part-arrive-end c = enough (opened (c .before .before .before)) .up-room
+
+sub-arrive-2 : tie.Need-sub-arrive-2
+sub-arrive-2 c = search needs
+
+part-arrive-start-2 : tie.Need-part-arrive-start-2
+part-arrive-start-2 c = search needs
+
+part-arrive-end-2 : tie.Need-part-arrive-end-2
+part-arrive-end-2 c = enough (opened (c .before .before .before .before)) .returned-room
+
 arrive-requires : tie.Need-arrive-requires
 arrive-requires c κs =
-    let e = c .before .before .before .before .before .before .before .before .before .before .before .before .before .before .before .before .before .before in
-    let opened = opened-by (lent e) (lends e) (e .args .number) (e .args .time) (c .before .before .before .before .before .before .before .before .before .judge .ensures) (c .before .before .before .before .before .before .before .r .given .1) in
-    let room = enough opened in
-    ((ready opened, in-ring opened), (room .up-room, room .returned-room, room .nack-room))
+    let at = c .before .before .before .before .before .before in
+    let e = start at in
+    let room = enough (opened at) in
+    ((ready (opened at), in-ring (opened at)), (lent-room (lends e .up) (room .up-room), lent-room (lends e .returned) (room .returned-room), room .nack-room))
 
 same-length : tie.Need-same-length
 same-length c = search needs
@@ -71,9 +99,11 @@ same-length-8 c = search needs
 
 returns-2 : tie.Need-returns-2
 returns-2 c =
-    let e = c .before .before .before .before .before .before .before .before .before .before .before .before .before .before .before .before .before .before .before .before .before .before .before .before .before .before .before .before .before .before .before in
-    let opened = opened-by (lent e) (lends e) (e .args .number) (e .args .time) (c .before .before .before .before .before .before .before .before .before .before .before .before .before .before .before .before .before .before .before .before .before .before .judge .ensures) (c .before .before .before .before .before .before .before .before .before .before .before .before .before .before .before .before .before .before .before .before .r .given .1) in
-    called-frame (e .args .handle) opened (c .before .before .before .before .before .before .before .before .before .before .before .before .arrive .ensures)
+    let at = c .before .before .before .before .before .before .before .before .before .before .before .before .before .before .before .before .before .before .before in
+    let room = enough (opened at) in
+    let call = c .before .before .before .before .before .before .before .before .before .before .before .before .arrive in
+    called-frame (start at .args .handle) (opened at)
+    (front-did (room .up-room) (room .returned-room) (call .kept .1 .1 .1 .1 .0) (call .kept .1 .1 .1 .1 .1 .0) (call .ensures))
 
 pub data-spec : {M : Type 1} → statement M
 data-spec =
@@ -83,6 +113,12 @@ data-spec =
     enum-known-n
     refused-requires
     enum-known-r
+    sub-arrive
+    part-arrive-start
+    part-arrive-end
+    sub-arrive-2
+    part-arrive-start-2
+    part-arrive-end-2
     arrive-requires
     same-length
     same-length-2
