@@ -2,7 +2,7 @@
 -- Document 01, 'The channel table': when a record is broken. Assumes nothing.
 use Prim.Native.Nat.{ℕ, _+_, _-_, _%_, _≤_, _<_}
 use mathlib.Core.Path.{_≡_, refl, ap, sym, _∙_}
-use mathlib.Core.Bool.{Bool, true, false, _&&_}
+use mathlib.Core.Bool.{Bool, true, false, _&&_, and-false}
 use mathlib.Core.List.{List, [], _∷_}
 use native.Mathlib.Omega.{arith}
 use lib.Dec.{leb}
@@ -13,10 +13,6 @@ use Rattle.larq.specs.Channel.{times, orderly}
 use Rattle.record.specs.Place.{cellAt}
 use Rattle.judging.specs.Judge.{timesOf}
 use Rattle.record.proofs.Windows.{window-none, window-suc, cell-waits, cell-missing}
-
-and-false : (b : Bool) → (b && false) ≡ false
-and-false true = refl
-and-false false = refl
 
 and-true : (b : Bool) → (b && true) ≡ b
 and-true true = refl

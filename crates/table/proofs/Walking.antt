@@ -1,8 +1,8 @@
 -- A walk over the places by one word of their keys: at word j it stands at place j / 2, and what is still to be walked finds what the whole walk
 -- finds. And what the first place of a source says of the first place of a key. Assumes nothing.
 use Prim.Native.Nat.{ℕ, _+_, _*_, _-_, _/_, _<_, _≤_}
-use mathlib.Core.Path.{_≡_, refl, ap, sym, _∙_}
-use mathlib.Core.Bool.{Bool, true, false, _&&_}
+use mathlib.Core.Path.{_≡_, ap, sym, _∙_}
+use mathlib.Core.Bool.{Bool, true, false, and-false}
 use mathlib.Core.List.{List}
 use native.Mathlib.Omega.{arith}
 use borrow.Author.Tests.{eq-eqb, ne-eqb}
@@ -58,12 +58,8 @@ module _ (keys : List ℕ) (first second : ℕ) where
   abbrev ofKey : ℕ → Bool
   ofKey = stores keys first second
 
-  and-false : (a b : Bool) → b ≡ false → a && b ≡ false
-  and-false true b e = e
-  and-false false b e = refl
-
   narrower : (j : ℕ) → ofSource j ≡ false → ofKey j ≡ false
-  narrower j e = and-false (eqb (getD keys (2 * j) 0) first) (ofSource j) e
+  narrower j e = rw e (and-false (eqb (getD keys (2 * j) 0) first))
 
   pub unknown-source : firstPlace ofSource ≡ Nothing → Nothing ≡ firstPlace ofKey
   unknown-source e = sym (none-there ofSource ofKey narrower 64 0 e)

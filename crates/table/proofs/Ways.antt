@@ -7,6 +7,7 @@ use mathlib.Core.Bool.{Bool, true, false, cond, _&&_}
 use native.Mathlib.Omega.{arith}
 use borrow.Author.Tests.{eqb-true, eqb-false, leb-true, eq-eqb, ne-eqb}
 use lib.Dec.{leb, eqb}
+use Rattle.wire.proofs.Joined.{and-left, and-right}
 use Rattle.larq.specs.Channel.{window}
 use Rattle.larq.specs.Table.{Lent, lentEnough}
 use Rattle.table.specs.Table.{whole}
@@ -31,8 +32,7 @@ dataWayBy (Way.Known i) spare = DataWay.Known i
 dataWayBy (Way.Refused n) spare = cond (eqb n 4) (openingAt spare) (DataWay.Refused n)
 
 pub both : (a b : Bool) → a && b ≡ true → (a ≡ true) × (b ≡ true)
-both true b e = (refl, e)
-both false b e = let z : _≡_ {A = ℕ} 0 1 = cc in absurd (let y : ⊥ = omega arith in y)
+both a b e = (and-left a b e, and-right a b e)
 
 passed : (b : Bool) (x n : ℕ) → cond b x (suc n) ≡ 0 → (b ≡ true) × (x ≡ 0)
 passed true x n e = (refl, e)
