@@ -1,7 +1,7 @@
--- A walk over the places by one word of their keys: at word j it stands at place j / 2, and what is still to be walked finds what the whole walk
--- finds. And what the first place of a source says of the first place of a key. Assumes nothing.
-use Prim.Native.Nat.{ℕ, _+_, _*_, _-_, _/_, _<_, _≤_}
-use mathlib.Core.Path.{_≡_, ap, sym, _∙_}
+-- A walk over the places by one word of their keys: with so many places left, what is still to be walked finds what the whole walk finds. And
+-- what the first place of a source says of the first place of a key. Assumes nothing.
+use Prim.Native.Nat.{ℕ, _+_, _*_, _-_, _<_, _≤_}
+use mathlib.Core.Path.{_≡_, refl, ap, sym, _∙_}
 use mathlib.Core.Bool.{Bool, true, false, and-false}
 use mathlib.Core.List.{List}
 use native.Mathlib.Omega.{arith}
@@ -17,39 +17,34 @@ module _ (keys : List ℕ) (w word : ℕ) where
   abbrev test : ℕ → Bool
   test = hasWord keys w word
 
-  pub record Walked (j : ℕ) : Type 0 where
-    pub either : w < 2
-    pub at : j ≡ 2 * (j / 2) + w
-    pub high : j / 2 ≤ 64
-    pub still : firstPlace test ≡ firstFrom test (j / 2) (64 - j / 2)
+  pub record Walked (left : ℕ) : Type 0 where
+    pub low : left ≤ 64
+    pub still : firstPlace test ≡ firstFrom test (64 - left) (64 - (64 - left))
 
-  pub begins : w < 2 → Walked w
-  begins either =
-      let start : w / 2 ≡ 0 = omega arith in
-      record { either = either; at = omega arith; high = omega arith; still = rw start }
+  pub begins : Walked 64
+  begins = record { low = omega arith; still = refl }
 
-  module _ (j : ℕ) (before : Walked j) where
-    word-is : (b : Bool) → eqb (getD keys j 0) word ≡ b → test (j / 2) ≡ b
-    word-is b e = ap (λ (x : ℕ). eqb (getD keys x 0) word) (sym (before .at)) ∙ e
+  module _ (left : ℕ) (before : Walked left) where
+    more-left : 0 < left → 64 - left < 64
+    more-left more = omega (arith, before .low)
 
-    pub goes-on : j < 128 → (getD keys j 0 ≡ word → ⊥) → Walked (j + 2)
+    pub goes-on : 0 < left → (getD keys (2 * (64 - left) + w) 0 ≡ word → ⊥) → Walked (left - 1)
     goes-on more other =
-        let next : (j + 2) / 2 ≡ j / 2 + 1 = omega arith in
+        let next : (64 - left) + 1 ≡ 64 - (left - 1) = omega (arith, before .low) in
         record {
-          either = before .either;
-          at = omega (arith, before .at);
-          high = omega (arith, before .at, before .either);
+          low = omega (arith, before .low);
           still =
               before .still
-              ∙ past test 64 (j / 2) (omega (arith, before .at, before .either)) (word-is false (ne-eqb (getD keys j 0) word other))
-              ∙ ap (λ (x : ℕ). firstFrom test x (64 - x)) (sym next);
+              ∙ past test 64 (64 - left) (more-left more) (ne-eqb (getD keys (2 * (64 - left) + w) 0) word other)
+              ∙ ap (λ (x : ℕ). firstFrom test x (64 - x)) next;
         }
 
-    pub ends : 128 ≤ j → Nothing ≡ firstPlace test
-    ends over = sym (before .still ∙ none test 64 (j / 2) (omega (arith, before .at, before .either)))
+    pub ends : left ≤ 0 → Nothing ≡ firstPlace test
+    ends over = sym (before .still ∙ none test 64 (64 - left) (omega arith))
 
-    pub found : j < 128 → getD keys j 0 ≡ word → At (j / 2) ≡ firstPlace test
-    found more same = sym (before .still ∙ here test 64 (j / 2) (omega (arith, before .at, before .either)) (word-is true (eq-eqb (getD keys j 0) word same)))
+    pub found : 0 < left → getD keys (2 * (64 - left) + w) 0 ≡ word → At (64 - left) ≡ firstPlace test
+    found more same =
+        sym (before .still ∙ here test 64 (64 - left) (more-left more) (eq-eqb (getD keys (2 * (64 - left) + w) 0) word same))
 
 module _ (keys : List ℕ) (first second : ℕ) where
   abbrev ofSource : ℕ → Bool

@@ -4,7 +4,6 @@ ghost use Prim.Native.Nat.{_-_, _<_, _≤_};
 ghost use lib.ListN.{length};
 ghost use Rattle.table.specs.First.{firstFrom, firstPlace, hasWord, stores, storesNone};
 use crate::KEY_WORDS;
-use crate::KEYS_IN_ALL;
 use crate::PLACES;
 
 // What a walk over the places finds.
@@ -21,23 +20,21 @@ fn is_stored(keys: &[u64], i: usize, first: u64, second: u64) -> bool
     (keys[KEY_WORDS * i] == first) & (keys[KEY_WORDS * i + 1] == second)
 }
 
-// The first place whose key has this word: the first word where `which` is 0, the source where it is 1. The walk goes by the words, with one
-// test a place: a lookup at a late place takes its time here.
+// The first place whose key has this word: the first word where `which` is 0, the source where it is 1. A lookup at a late place takes its time
+// here: one test a place, and one counter, of the places that are left.
 fn first_with(keys: &[u64], which: usize, word: u64) -> Found
     requires { ⌜ (length (now keys) ≡ 128) × (which < 2) ⌝ }
     ensures { λ r. ⌜ r ≡ firstPlace (hasWord (now (keys .entry)) which word) ⌝ }
 {
-    let mut j = which;
-    let place = loop {
-        if j >= KEYS_IN_ALL {
-            break Found::Nothing;
+    let mut left = PLACES;
+    while left > 0 {
+        let at = PLACES - left;
+        if keys[KEY_WORDS * at + which] == word {
+            return Found::At(at);
         }
-        if keys[j] == word {
-            break Found::At(j / KEY_WORDS);
-        }
-        j += KEY_WORDS;
-    };
-    place
+        left -= 1;
+    }
+    Found::Nothing
 }
 
 // The first place from `from` on that stores the key of these two words.

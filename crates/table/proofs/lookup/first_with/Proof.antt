@@ -1,40 +1,49 @@
--- `first_with` meets its contract: at each turn the places from that of word j on hold the first that has the word, if one does.
-use Prim.Native.Nat.{_-_}
+-- `first_with` meets its contract: at each turn the places that are left hold the first that has the word, if one does.
 use borrow.Author.Needs.{needs}
 use Rattle.table.proofs.Walking.{Walked, begins, goes-on, ends, found}
 use Rattle.table.proofs.lookup.first_with.Statement.{statement}
 use Rattle.table.proofs.lookup.first_with.Tie as tie
 
 abbrev Inv-loop : tie.InvT-loop
-Inv-loop keys which word j₀ j = Walked keys which word j
+Inv-loop keys which word left₀ left = Walked keys which word left
 
 abbrev μ-loop : tie.MeasureT-loop
-μ-loop keys which word j₀ j = 130 - j
+μ-loop keys which word left₀ left = left
 
 loop-holds : tie.Need-loop-holds Inv-loop μ-loop
-loop-holds c = begins _ _ _ (c .pre .1)
+loop-holds c = begins _ _ _
 
-mul-if2 : tie.Need-mul-if2 Inv-loop μ-loop
-mul-if2 c = search needs
+sub-at : tie.Need-sub-at Inv-loop μ-loop
+sub-at c = search needs
 
-shared-slice-read-if2 : tie.Need-shared-slice-read-if2 Inv-loop μ-loop
-shared-slice-read-if2 c = search needs
+mul-if1 : tie.Need-mul-if1 Inv-loop μ-loop
+mul-if1 c = search needs
 
-add-j : tie.Need-add-j Inv-loop μ-loop
-add-j c = search needs
+add-if1 : tie.Need-add-if1 Inv-loop μ-loop
+add-if1 c = search needs
+
+mul-if1-2 : tie.Need-mul-if1-2 Inv-loop μ-loop
+mul-if1-2 c = search needs
+
+shared-slice-read-if1 : tie.Need-shared-slice-read-if1 Inv-loop μ-loop
+shared-slice-read-if1 c = search needs
+
+returns : tie.Need-returns Inv-loop μ-loop
+returns c = found _ _ _ _ (c .before .before .before .loop .inv) (c .before .before .loop-test .taken) (c .if1 .taken)
+
+sub-left : tie.Need-sub-left Inv-loop μ-loop
+sub-left c = search needs
 
 loop-less : tie.Need-loop-less Inv-loop μ-loop
 loop-less c = search needs
 
 loop-again : tie.Need-loop-again Inv-loop μ-loop
-loop-again c = goes-on _ _ _ _ (c .before .before .before .loop .inv) (c .before .before .if1 .left) (c .if2 .left)
-
-returns : tie.Need-returns Inv-loop μ-loop
-returns c = ends _ _ _ _ (c .before .loop .inv) (c .if1 .taken)
+loop-again c = goes-on _ _ _ _ (c .before .before .before .loop .inv) (c .before .before .loop-test .taken) (c .if1 .left)
 
 returns-2 : tie.Need-returns-2 Inv-loop μ-loop
-returns-2 c = found _ _ _ _ (c .before .before .before .loop .inv) (c .before .before .if1 .left) (c .if2 .taken)
+returns-2 c = ends _ _ _ _ (c .before .loop .inv) (c .loop-test .left)
 
 pub first-with-spec : {M : Type 1} → statement M
 first-with-spec =
-    tie.close (tie.spec Inv-loop μ-loop loop-holds mul-if2 shared-slice-read-if2 add-j loop-less loop-again returns returns-2)
+    tie.close
+    (tie.spec Inv-loop μ-loop loop-holds sub-at mul-if1 add-if1 mul-if1-2 shared-slice-read-if1 returns sub-left loop-less loop-again returns-2)
