@@ -1,9 +1,7 @@
 -- Where the number of a frame lies, before its distance is taken. Assumes nothing.
 use Prim.Native.Nat.{ℕ}
-use mathlib.Core.Path.{_≡_, sym, _∙_}
-use mathlib.Core.Bool.{Bool, true, false, _&&_}
+use mathlib.Core.Path.{_≡_}
 use native.Mathlib.Omega.{arith}
-use Rattle.wire.proofs.Joined.{and-both}
 use Rattle.ring.specs.Ring.{steps}
 use Rattle.ring.proofs.Sides.{is-ahead}
 use Rattle.larq.specs.Channel as channel
@@ -21,7 +19,3 @@ next-at r s same none =
       oldest = same;
       none = none;
     }
-
--- a test of both does not fail where each holds
-pub both-hold : (a b : Bool) → a ≡ true → b ≡ true → a && b ≡ false → ⊥
-both-hold a b e f g = let h = sym (and-both a b e f) ∙ g in let z : _≡_ {A = ℕ} 0 1 = cc in omega arith

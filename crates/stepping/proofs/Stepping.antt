@@ -1,7 +1,7 @@
 -- A step ahead that can be taken: what its test says, and that there is room for what it passes and asks for. Assumes nothing.
 use Prim.Native.Nat.{ℕ, _≤_}
-use mathlib.Core.Path.{_≡_, ap, sym, _∙_}
-use mathlib.Core.Bool.{Bool, true, false, cond}
+use mathlib.Core.Path.{_≡_}
+use mathlib.Core.Bool.{true}
 use mathlib.Core.List.{List}
 use native.Mathlib.Omega.{arith}
 use lib.Dec.{leb}
@@ -20,16 +20,6 @@ use Rattle.record.specs.declared.Record.{Record}
 use Rattle.record.specs.declared.Grown.{Grown}
 use Rattle.record.proofs.Sizes.{Enough, enough-of}
 use Rattle.record.proofs.Waiting.{waiting-short, hands-all}
-
--- a test has one answer
-pub not-both : {A : Type 0} (b : Bool) → b ≡ true → b ≡ false → A
-not-both b e f = no-one (ap count (sym e ∙ f))
-  where
-    count : Bool → ℕ
-    count b = cond b 1 0
-
-    no-one : {A : Type 0} → count true ≡ count false → A
-    no-one e = absurd (let z : ⊥ = omega arith in z)
 
 -- what the test says, of a step to s that makes so many numbers missing
 pub record Fits (r : Record) (s made : ℕ) (w h k u q : List ℕ) : Type 0 where

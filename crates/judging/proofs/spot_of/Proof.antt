@@ -9,8 +9,8 @@ use Rattle.ring.specs.Ring.{steps}
 use Rattle.ring.proofs.Sides.{seen-far, seen-ahead, seen-behind}
 use Rattle.judging.specs.Judge.{BehindAt}
 use Rattle.record.specs.Moving.{spanIn}
-use Rattle.wire.proofs.Joined.{and-left, and-right}
-use Rattle.judging.proofs.Spots.{next-at, both-hold}
+use Rattle.wire.proofs.Joined.{and-left, and-right, and-both, not-both}
+use Rattle.judging.proofs.Spots.{next-at}
 use borrow.Author.Needs.{needs}
 use Rattle.judging.proofs.spot_of.Statement.{statement}
 use Rattle.judging.proofs.spot_of.Tie as tie
@@ -46,8 +46,9 @@ returns-3 c =
     record {
       is = rw (c .steps .ensures) (seen-ahead _ _ (rw (c .before .before .is-ahead .ensures, c .before .before .before .before .before .distance .ensures) at (c .before .if3 .taken)));
       other =
-          λ same none. both-hold _ _ (eq-eqb (a .s .0) (a .r .oldest .0) same)
-          (eq-eqb _ 0 (c .before .before .before .before .before .before .before .before .before .span .ensures ∙ none))
+          λ same none. not-both _
+          (and-both _ _ (eq-eqb (a .s .0) (a .r .oldest .0) same)
+          (eq-eqb _ 0 (c .before .before .before .before .before .before .before .before .before .span .ensures ∙ none)))
           (c .before .before .before .before .before .before .if1 .left);
     }
 

@@ -3,7 +3,8 @@ use mathlib.Core.Path.{_≡_, refl, sym, _∙_}
 use mathlib.Core.Bool.{true}
 use native.Mathlib.Omega.{arith}
 use borrow.Author.Tests.{not-true, not-false}
-use Rattle.stepping.proofs.Stepping.{not-both, Fits, fits-of, asked-few, handed-all, handed-few}
+use Rattle.wire.proofs.Joined.{not-both}
+use Rattle.stepping.proofs.Stepping.{Fits, fits-of, asked-few, handed-all, handed-few}
 use Rattle.stepping.specs.Step.{canStep}
 use borrow.Author.Needs.{needs}
 use Rattle.stepping.proofs.widened.Statement.{statement}
