@@ -25,10 +25,10 @@ module _ (keys : List ℕ) (w word : ℕ) where
   begins = record { low = omega arith; still = refl }
 
   module _ (left : ℕ) (before : Walked left) where
-    more-left : 0 < left → 64 - left < 64
+    more-left : (left ≡ 0 → ⊥) → 64 - left < 64
     more-left more = omega (arith, before .low)
 
-    pub goes-on : 0 < left → (getD keys (2 * (64 - left) + w) 0 ≡ word → ⊥) → Walked (left - 1)
+    pub goes-on : (left ≡ 0 → ⊥) → (getD keys (2 * (64 - left) + w) 0 ≡ word → ⊥) → Walked (left - 1)
     goes-on more other =
         let next : (64 - left) + 1 ≡ 64 - (left - 1) = omega (arith, before .low) in
         record {
@@ -39,10 +39,10 @@ module _ (keys : List ℕ) (w word : ℕ) where
               ∙ ap (λ (x : ℕ). firstFrom test x (64 - x)) next;
         }
 
-    pub ends : left ≤ 0 → Nothing ≡ firstPlace test
+    pub ends : left ≡ 0 → Nothing ≡ firstPlace test
     ends over = sym (before .still ∙ none test 64 (64 - left) (omega arith))
 
-    pub found : 0 < left → getD keys (2 * (64 - left) + w) 0 ≡ word → At (64 - left) ≡ firstPlace test
+    pub found : (left ≡ 0 → ⊥) → getD keys (2 * (64 - left) + w) 0 ≡ word → At (64 - left) ≡ firstPlace test
     found more same =
         sym (before .still ∙ here test 64 (64 - left) (more-left more) (eq-eqb (getD keys (2 * (64 - left) + w) 0) word same))
 

@@ -27,14 +27,17 @@ fn first_with(keys: &[u64], which: usize, word: u64) -> Found
     ensures { λ r. ⌜ r ≡ firstPlace (hasWord (now (keys .entry)) which word) ⌝ }
 {
     let mut left = PLACES;
-    while left > 0 {
+    let place = loop {
+        if left == 0 {
+            break Found::Nothing;
+        }
         let at = PLACES - left;
         if keys[KEY_WORDS * at + which] == word {
-            return Found::At(at);
+            break Found::At(at);
         }
         left -= 1;
-    }
-    Found::Nothing
+    };
+    place
 }
 
 // The first place from `from` on that stores the key of these two words.

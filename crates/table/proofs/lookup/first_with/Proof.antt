@@ -16,20 +16,17 @@ loop-holds c = begins _ _ _
 sub-at : tie.Need-sub-at Inv-loop μ-loop
 sub-at c = search needs
 
-mul-if1 : tie.Need-mul-if1 Inv-loop μ-loop
-mul-if1 c = search needs
+mul-if2 : tie.Need-mul-if2 Inv-loop μ-loop
+mul-if2 c = search needs
 
-add-if1 : tie.Need-add-if1 Inv-loop μ-loop
-add-if1 c = search needs
+add-if2 : tie.Need-add-if2 Inv-loop μ-loop
+add-if2 c = search needs
 
-mul-if1-2 : tie.Need-mul-if1-2 Inv-loop μ-loop
-mul-if1-2 c = search needs
+mul-if2-2 : tie.Need-mul-if2-2 Inv-loop μ-loop
+mul-if2-2 c = search needs
 
-shared-slice-read-if1 : tie.Need-shared-slice-read-if1 Inv-loop μ-loop
-shared-slice-read-if1 c = search needs
-
-returns : tie.Need-returns Inv-loop μ-loop
-returns c = found _ _ _ _ (c .before .before .before .loop .inv) (c .before .before .loop-test .taken) (c .if1 .taken)
+shared-slice-read-if2 : tie.Need-shared-slice-read-if2 Inv-loop μ-loop
+shared-slice-read-if2 c = search needs
 
 sub-left : tie.Need-sub-left Inv-loop μ-loop
 sub-left c = search needs
@@ -38,12 +35,15 @@ loop-less : tie.Need-loop-less Inv-loop μ-loop
 loop-less c = search needs
 
 loop-again : tie.Need-loop-again Inv-loop μ-loop
-loop-again c = goes-on _ _ _ _ (c .before .before .before .loop .inv) (c .before .before .loop-test .taken) (c .if1 .left)
+loop-again c = goes-on _ _ _ _ (c .before .before .before .loop .inv) (c .before .before .if1 .left) (c .if2 .left)
+
+returns : tie.Need-returns Inv-loop μ-loop
+returns c = ends _ _ _ _ (c .before .loop .inv) (c .if1 .taken)
 
 returns-2 : tie.Need-returns-2 Inv-loop μ-loop
-returns-2 c = ends _ _ _ _ (c .before .loop .inv) (c .loop-test .left)
+returns-2 c = found _ _ _ _ (c .before .before .before .loop .inv) (c .before .before .if1 .left) (c .if2 .taken)
 
 pub first-with-spec : {M : Type 1} → statement M
 first-with-spec =
     tie.close
-    (tie.spec Inv-loop μ-loop loop-holds sub-at mul-if1 add-if1 mul-if1-2 shared-slice-read-if1 returns sub-left loop-less loop-again returns-2)
+    (tie.spec Inv-loop μ-loop loop-holds sub-at mul-if2 add-if2 mul-if2-2 shared-slice-read-if2 sub-left loop-less loop-again returns returns-2)
