@@ -12,7 +12,7 @@ use Rattle.larq.specs.Events.{Act, frame, reminder, tick, close, opened,
 use Rattle.larq.specs.Table.{Key, sameKey, free, held, Table, Lent, Event, one, outcome, step}
 use Rattle.larq.specs.Run.{run, answers, eventsOf, answersTo, empty}
 use Rattle.larq.specs.Demands.{untilClosed, AgreeButFull, entered, made}
-use Rattle.larq.specs.Counts.{Sent, sent, reminded, Note, allUp}
+use Rattle.larq.specs.Counts.{Sent, sent, reminded, strayed, Note, allUp}
 use Rattle.larq.proofs.Untouched.{Untouched, untouched}
 use Rattle.larq.proofs.Apart.{apart}
 use Rattle.larq.proofs.Restart.{FarFrame, NotOpen, Restarts, restart}
@@ -116,22 +116,25 @@ moves-met = moves window (omega arith) true behind-11 [] jump good refl
 pub bounded-met : Bounded window (one window true (behind-11 ∷ []) jump .answer)
 bounded-met = bounded window (omega arith) (omega arith) true (behind-11 ∷ []) jump (good, tt)
 
--- over the ring's edge: the frame of count 4,095 opened the channel, 4,097 comes before 4,096, and a reminder of 4,098
+-- over the ring's edge: the frame of count 4,095 opened the channel, 4,097 comes before 4,096, between them a frame with the number 4,096, which is
+-- refused, and then a reminder of 4,098
 abbrev note : ℕ → Sent (ℕ × ℕ) → Note (ℕ × ℕ)
 note t s = record { time = t; lent = enough; what = s }
 
 abbrev notes : List (Note (ℕ × ℕ))
-notes = note 101 (sent (4097, 7)) ∷ (note 102 (sent (4096, 7)) ∷ (note 103 (reminded 4098) ∷ []))
+notes = note 101 (sent (4097, 7)) ∷ (note 101 (strayed 0 (0, 9)) ∷ (note 102 (sent (4096, 7)) ∷ (note 103 (reminded 4098) ∷ [])))
 
 abbrev over-the-edge : List (Event ℕ)
-over-the-edge = at mine 101 (frame 1 7) ∷ (at yours 101 (frame 3 3) ∷ (at mine 102 (frame 0 7) ∷ (at mine 103 (reminder 2) ∷ [])))
+over-the-edge =
+    at mine 101 (frame 1 7)
+    ∷ (at yours 101 (frame 3 3) ∷ (at mine 101 (frame 4096 9) ∷ (at mine 102 (frame 0 7) ∷ (at mine 103 (reminder 2) ∷ []))))
 
 -- the host gave both frames the same handle, and by the sender's counts 4,096 went up before 4,097
 pub own-order-met : OwnOrder window mine 4095 100 notes (untilClosed (eventsOf mine over-the-edge) (answersTo mine over-the-edge (answers window (held mine (opened 4095 100) ∷ (free ∷ [])) over-the-edge)))
 unfolding one outcome step sound sameKey act-on asked side distance
 own-order-met =
     own-order window (omega arith) mine (held mine (opened 4095 100) ∷ (free ∷ [])) 4095 100 [] refl over-the-edge notes refl
-    (λ _. (omega arith, omega arith), (λ _. (omega arith, omega arith), (λ _. (omega arith, omega arith), tt)))
+    (λ _. (omega arith, omega arith), (λ _. tt, (λ _. (omega arith, omega arith), (λ _. (omega arith, omega arith), tt))))
 
 pub own-order-content : allUp (answersTo mine over-the-edge (answers window (held mine (opened 4095 100) ∷ (free ∷ [])) over-the-edge)) ≡ 7 ∷ (7 ∷ [])
 unfolding one outcome step sound sameKey act-on asked side distance

@@ -8,7 +8,8 @@ use mathlib.Core.List.{List, [], _∷_, _++_, map}
 use native.Mathlib.Omega.{arith}
 use native.Mathlib.Decide.{decLt}
 use lib.ListN.{length, take, drop, replicate, length-append, length-replicate, length-drop}
-use lib.Dec.{eqb, eqb·suc-zero}
+use lib.Dec.{eqb, leb, eqb·suc-zero}
+use borrow.Author.Tests.{leb-true}
 use Rattle.ring.specs.Ring.{size, forward, next, steps, seen, Side, Ahead, Behind, Far}
 use Rattle.ring.proofs.Sides.{seen-above, seen-below}
 use Rattle.ring.proofs.Steps.{next-mod, forward-mod, steps-up, steps-down}
@@ -16,10 +17,10 @@ use Rattle.larq.specs.Channel.{Cell, waits, missing, Channel, waiting, r
 use Rattle.larq.specs.Settling.{Walked, walk, wide, stale}
 use Rattle.larq.specs.Answer.{Change, same, holds, freed, Outcome, refused, accepted}
 use Rattle.larq.specs.Events.{opened, taken, grown, settledAt, after, filling, filled, data-on, reminder-on, sideOf, act-on}
-use Rattle.larq.specs.Table.{Key, Table, channels, Event, one}
+use Rattle.larq.specs.Table.{Key, Table, channels, Event, one, numberInRing}
 use Rattle.larq.specs.Run.{answers, eventsOf, answersTo}
 use Rattle.larq.specs.Demands.{untilClosed}
-use Rattle.larq.specs.Counts.{Sent, sent, reminded, ticked, closed, Note, actOf, eventOf, Near, NearBy, raised, Within, Rising, allUp, numbers}
+use Rattle.larq.specs.Counts.{Sent, sent, reminded, strayed, strayReminded, ticked, closed, Note, actOf, eventOf, Near, NearBy, raised, Within, Rising, allUp, numbers}
 use Rattle.larq.proofs.Cases.{one-case}
 use Rattle.larq.proofs.Untouched.{act-accepts}
 use Rattle.larq.proofs.Walk.{Passed, walk-passes}
@@ -202,12 +203,19 @@ module _ {H : Type 0} (count : H → ℕ) where
     seen-current : (u : ℕ) → Near w hi u → Told hi u (sideOf w c (u % size))
     seen-current u q = rw (inv .current) (told w hi u half q)
 
-    act-steps : (e : Sent H) → Sound w c → NearBy count w hi e → Steps n hi (raised count hi e) c (act-on w c t (actOf count e))
+    -- a number above 4,095 does not pass
+    no-stray : {A : Type 0} (k : ℕ) → leb (size + k) 4095 ≡ true → A
+    no-stray k e = absurd (let l : size + k ≤ 4095 = leb-true (size + k) 4095 e in let z : ⊥ = omega arith in z)
+
+    act-steps : (e : Sent H) → numberInRing (actOf count e) ≡ true → Sound w c → NearBy count w hi e
+        → Steps n hi (raised count hi e) c (act-on w c t (actOf count e))
     unfolding act-on
-    act-steps (sent h) s q = data-steps h s (sideOf w c (count h % size)) (seen-current (count h) q) q
-    act-steps (reminded u) s q = reminder-steps u (sideOf w c (u % size)) (seen-current u q)
-    act-steps ticked s q = walked-steps (stale t) hi 0 (c .current) (c .cells) (inv .counts) (inv .span) (inv .current)
-    act-steps closed s q = record { to = n; climbs = omega arith; next = tt }
+    act-steps (sent h) i s q = data-steps h s (sideOf w c (count h % size)) (seen-current (count h) q) q
+    act-steps (reminded u) i s q = reminder-steps u (sideOf w c (u % size)) (seen-current u q)
+    act-steps (strayed k h) i s q = no-stray k i
+    act-steps (strayReminded k) i s q = no-stray k i
+    act-steps ticked i s q = walked-steps (stale t) hi 0 (c .current) (c .cells) (inv .counts) (inv .span) (inv .current)
+    act-steps closed i s q = record { to = n; climbs = omega arith; next = tt }
 
   one-steps : (w : ℕ) → w < 1024 → (n hi : ℕ) (c : Channel H) → Numbered n hi c → (k : Key) (e : Note H)
       → (one w true (c ∷ []) (eventOf count k e) .answer .number ≡ 0 → NearBy count w hi (e .what))
@@ -215,7 +223,7 @@ module _ {H : Type 0} (count : H → ℕ) where
   one-steps w half n hi c inv k e =
       one-case w true (c ∷ []) (eventOf count k e) (λ o. (o .answer .number ≡ 0 → NearBy count w hi (e .what)) → Steps n hi (raised count hi (e .what)) c o)
       (λ r _. refused-steps w half n hi c (e .time) inv (raised count hi (e .what)) r)
-      (λ p q. act-steps w half n hi c (e .time) inv (e .what) (sound-is w c (p .whole)) (q (act-accepts w c (e .time) (actOf count (e .what)))))
+      (λ p q. act-steps w half n hi c (e .time) inv (e .what) (p .ring) (sound-is w c (p .whole)) (q (act-accepts w c (e .time) (actOf count (e .what)))))
 
   -- along the events of an open channel, until it is closed
   run-climbs : (w : ℕ) → w < 1024 → (k : Key) (n hi : ℕ) (c : Channel H) → Numbered n hi c → (ns : List (Note H))

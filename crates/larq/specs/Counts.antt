@@ -10,10 +10,13 @@ use Rattle.larq.specs.Answer.{Answer}
 use Rattle.larq.specs.Events.{Act, frame, reminder, tick, close}
 use Rattle.larq.specs.Table.{Key, Lent, Event}
 
--- what comes on a channel: a frame, whose handle tells its count; a reminder with a count; and the host's own events
+-- what comes on a channel: a frame, whose handle tells its count; a reminder with a count; either of them with no number of the ring, but with one
+-- that is so much above 4,095; and the host's own events
 pub data Sent (H : Type 0) : Type 0 where
   sent : H → Sent H
   reminded : ℕ → Sent H
+  strayed : ℕ → H → Sent H
+  strayReminded : ℕ → Sent H
   ticked : Sent H
   closed : Sent H
 
@@ -30,6 +33,8 @@ module _ {H : Type 0} (count : H → ℕ) where
   abbrev pub actOf : Sent H → Act H
   actOf (sent h) = frame (count h % size) h
   actOf (reminded u) = reminder (u % size)
+  actOf (strayed n h) = frame (size + n) h
+  actOf (strayReminded n) = reminder (size + n)
   actOf ticked = tick
   actOf closed = close
 
@@ -39,6 +44,8 @@ module _ {H : Type 0} (count : H → ℕ) where
   abbrev pub NearBy : ℕ → ℕ → Sent H → Type 0
   NearBy w hi (sent h) = Near w hi (count h)
   NearBy w hi (reminded u) = Near w hi u
+  NearBy w hi (strayed n h) = Unit
+  NearBy w hi (strayReminded n) = Unit
   NearBy w hi ticked = Unit
   NearBy w hi closed = Unit
 
@@ -46,6 +53,8 @@ module _ {H : Type 0} (count : H → ℕ) where
   abbrev pub raised : ℕ → Sent H → ℕ
   raised hi (sent h) = max hi (count h)
   raised hi (reminded u) = max hi u
+  raised hi (strayed n h) = hi
+  raised hi (strayReminded n) = hi
   raised hi ticked = hi
   raised hi closed = hi
 

@@ -7,3 +7,5 @@ pub mod Run
 pub mod Demands
 pub mod Counts
 pub mod Calls
+pub mod Edges
+pub mod NumberCases
