@@ -10,15 +10,11 @@ use Rattle.ring.proofs.Sides.{Seen, sees}
 use Rattle.ring.proofs.Steps.{steps-self}
 use Rattle.larq.specs.Channel.{Cell, waits, missing, Channel, headMissing, reach}
 use Rattle.larq.specs.Settling.{walk, wide}
-use Rattle.larq.specs.Answer.{Outcome}
 use Rattle.larq.specs.Events.{frame, filling, filled, data-on, sideOf, act-on}
 use Rattle.larq.specs.Table.{Table, channels, room, Event, one, outcome}
+use Rattle.larq.specs.Demands.{UpFirst}
 use Rattle.larq.proofs.Cases.{accepted-passes}
 use Rattle.larq.proofs.Sound.{Sound, Good}
-
--- h goes up first
-abbrev pub UpFirst : {H : Type 0} → H → Outcome H → Type 0
-UpFirst h o = (hs : List _) × (o .answer .up ≡ h ∷ hs)
 
 -- seen from C, the number M lies one ahead where the span is 0, and else behind
 one-ahead : (w c m n d : ℕ) → w < 1024 → n ≤ w → forward m n ≡ next c → c ≤ 4095 → m ≤ 4095 → steps c m ≡ d → 0 < d → d ≤ reach w → (n ≡ 0) × (d ≡ 1)

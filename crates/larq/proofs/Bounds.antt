@@ -15,16 +15,11 @@ use Rattle.larq.specs.Channel.{Cell, waits, missing, Channel, waiting, h
 use Rattle.larq.specs.Answer.{Answer, holds, Outcome}
 use Rattle.larq.specs.Events.{Act, frame, reminder, tick, close, after, filling, filled, grown, data-on, reminder-on, sideOf, act-on}
 use Rattle.larq.specs.Table.{Event, done, one, numberInRing}
-use Rattle.larq.specs.Demands.{filledOr, enteredData, enteredReminder}
+use Rattle.larq.specs.Demands.{filledOr, enteredData, enteredReminder, Moves, Bounded}
 use Rattle.larq.proofs.Cases.{Passes, one-case}
 use Rattle.larq.proofs.Orderly.{OnSome}
 use Rattle.larq.proofs.Sound.{Good, AllGood, Kept, data-good, reminder-good, act-good}
-use Rattle.larq.proofs.Moved.{Moves, MovesTo, data-moves, reminder-moves, act-moves}
-
-pub record Bounded {H : Type 0} (w : ℕ) (r : Answer H) : Type 0 where
-  pub up : length (r .up) ≤ w
-  pub returned : length (r .returned) ≤ w - 1
-  pub nack : length (r .nack) ≤ w
+use Rattle.larq.proofs.Moved.{MovesTo, data-moves, reminder-moves, act-moves}
 
 module _ {H : Type 0} where
   waiting-most : (cs : List (Cell H)) → length (waiting cs) ≤ length cs

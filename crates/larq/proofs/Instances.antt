@@ -11,15 +11,15 @@ use Rattle.larq.specs.Answer.{holds}
 use Rattle.larq.specs.Events.{Act, frame, reminder, tick, close, opened, asked, act-on}
 use Rattle.larq.specs.Table.{Key, sameKey, free, held, Table, Lent, Event, one, outcome, step}
 use Rattle.larq.specs.Run.{run, answers, eventsOf, answersTo, empty}
-use Rattle.larq.specs.Demands.{untilClosed, AgreeButFull, entered, made}
+use Rattle.larq.specs.Demands.{untilClosed, AgreeButFull, entered, made, Moves, UpFirst, Bounded}
 use Rattle.larq.specs.Counts.{Sent, sent, reminded, strayed, Note, allUp}
 use Rattle.larq.proofs.Untouched.{Untouched, untouched}
 use Rattle.larq.proofs.Apart.{apart}
 use Rattle.larq.proofs.Restart.{FarFrame, NotOpen, Restarts, restart}
 use Rattle.larq.proofs.Sound.{Good}
-use Rattle.larq.proofs.Moved.{Moves, moves}
-use Rattle.larq.proofs.Bounds.{Bounded, bounded}
-use Rattle.larq.proofs.AtOnce.{UpFirst, at-once}
+use Rattle.larq.proofs.Moved.{moves}
+use Rattle.larq.proofs.Bounds.{bounded}
+use Rattle.larq.proofs.AtOnce.{at-once}
 use Rattle.larq.proofs.OwnHandles.{OwnOrder, own-order}
 use Rattle.larq.proofs.Kept.{KeptOnce, kept}
 

@@ -6,30 +6,20 @@ use mathlib.Core.Bool.{Bool, true, false, not}
 use mathlib.Core.Option.{Option, some, none}
 use mathlib.Core.List.{List, [], _∷_}
 use native.Mathlib.Omega.{arith}
-use lib.ListN.{length, getD, take, drop, length-append, length-replicate}
+use lib.ListN.{length, getD, length-append, length-replicate}
 use Rattle.ring.specs.Ring.{size, forward, next, steps, rising, Side, Ahead, Behind, Far}
 use Rattle.ring.proofs.Sides.{Seen, sees}
 use Rattle.ring.proofs.Steps.{forward-small, forward-forward, steps-forward, length-rising}
-use Rattle.larq.specs.Channel.{Cell, waits, Channel, waiting, times, reach}
+use Rattle.larq.specs.Channel.{Cell, waits, Channel, reach}
 use Rattle.larq.specs.Settling.{Walked, walk, wide, stale}
 use Rattle.larq.specs.Answer.{Answer, holds, Outcome, accepted}
 use Rattle.larq.specs.Events.{Act, frame, reminder, tick, close, taken, moved, asked, grown, settledAt, filling, filled, data-on, reminder-on, sideOf, act-on}
 use Rattle.larq.specs.Table.{Event, one, notFar}
-use Rattle.larq.specs.Demands.{restarts, filledOr, enteredData, enteredReminder, entered, aheadBy, made}
+use Rattle.larq.specs.Demands.{restarts, filledOr, enteredData, enteredReminder, entered, aheadBy, made, Moves}
 use Rattle.larq.proofs.Cases.{one-case}
 use Rattle.larq.proofs.Walk.{Passed, walk-passes}
 use Rattle.larq.proofs.Sound.{Good}
 use Rattle.larq.proofs.Nack.{asked-rising}
-
--- from the record c, by a window in which the event's numbers stand and k numbers that it made missing, to the record d
-pub record Moves {H : Type 0} (c : Channel H) (cs : List (Cell H)) (k : ℕ) (r : Answer H) (d : Channel H) : Type 0 where
-  pub by : ℕ
-  pub most : by ≤ length cs
-  pub oldest : d .oldest ≡ forward (c .oldest) by
-  pub cells : d .cells ≡ drop by cs
-  pub up : r .up ≡ waiting (take by cs)
-  pub lost : r .lost ≡ length (times (take by cs))
-  pub nack : r .nack ≡ rising (forward (next (c .current)) (by - length (c .cells))) (k - (by - length (c .cells)))
 
 abbrev pub MovesTo : {H : Type 0} → Channel H → List (Cell H) → ℕ → Outcome H → Type 0
 MovesTo c cs k o = (d : Channel _) → o .change ≡ holds d → Moves c cs k (o .answer) d

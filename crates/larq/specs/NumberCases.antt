@@ -2,7 +2,7 @@
 -- the first of two places with one key, and the first free place. `numbers` (proofs/Numbers) is its one statement.
 use Prim.Native.Nat.{ℕ}
 use mathlib.Core.Bool.{Bool, true, false}
-use mathlib.Core.List.{List, [], _∷_, map}
+use mathlib.Core.List.{List, [], _∷_}
 use lib.ListN.{replicate}
 use Rattle.larq.specs.Channel.{Cell, waits, missing, Channel, window}
 use Rattle.larq.specs.Events.{Act, frame, reminder, tick, close, opened}

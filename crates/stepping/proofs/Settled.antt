@@ -1,6 +1,6 @@
 -- The contract of `widened` leaves nothing open: any two outcomes that it allows for the same call are equal (document 01, 'How far a statement has
 -- to reach'). Assumes nothing.
-use Prim.Native.Nat.{ℕ, _-_}
+use Prim.Native.Nat.{ℕ}
 use mathlib.Core.Path.{_≡_, refl, sym, _∙_}
 use mathlib.Core.Bool.{Bool, true, false}
 use mathlib.Core.List.{List}
