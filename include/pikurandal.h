@@ -36,8 +36,9 @@ enum pik_number {
     PIK_NO_PRIORITY = 3, /* the priority is above 7 */
     PIK_NO_CHANNEL = 4,  /* reminder, tick, close, look: no such channel is open */
     PIK_NO_PLACE = 5,    /* data: the channel would be new, and no place is free */
-    PIK_BROKEN = 6,      /* the channel's record is broken: the slices were written by someone else */
-    PIK_EARLY = 7,       /* the time is earlier than the channel's latest */
+    PIK_BROKEN = 6,      /* the channel's record is broken: the slices were written by someone else. A close is refused too; pik_empty frees the
+                            place, or zeros in its part of all four slices (docs/LAYOUT.md) */
+    PIK_EARLY = 7,       /* the time is earlier than the channel's latest, which pik_look shows */
     PIK_FAR = 8,         /* reminder: the number is more than 64 from the current one, ahead or behind */
 
     /* Rate requests. The reader checks 10 to 22 in this order, the writer 15, 16, 23, 18, 19, 20, 21, 24. */
@@ -92,7 +93,7 @@ struct pik_buffers {
     uint16_t nack[PIK_BUFFER];
 };
 
-/* Such a table, and such buffers, as the arguments of a call. */
+/* Such a table, and such buffers, as the arguments of a call. The macros name what they are given several times: give them a plain pointer. */
 #define PIK_TABLE(t) (t)->keys, PIK_KEYS, (t)->words, PIK_WORDS, (t)->handles, PIK_HANDLES, (t)->marks, PIK_MARKS
 #define PIK_BUFFERS(b) (b)->up, PIK_BUFFER, (b)->returned, PIK_BUFFER, (b)->nack, PIK_BUFFER
 
@@ -117,7 +118,8 @@ struct pik_answer {
  * - A time is the host's count of ticks, in a unit of the host's. On one channel it may stand still but not go back: number 7. Every accepted event sets
  *   the channel's latest time, also where it changes nothing else.
  * - A handle is any number by which the host knows a frame's body. What went up is the upper layer's, in this order; what was returned is the host's to
- *   drop. A handle that was neither is kept by the channel until a later call names it.
+ *   drop. A frame that was accepted and is in neither list waits: the channel keeps its handle until a later call names it. The handle of a frame that was
+ *   refused was not taken: it is the host's to drop.
  * - Numbers to be asked for again are told once, in the call that finds them missing. Sending the request, and again later, is the host's part.
  * - One call serves one channel. A host with several open channels ticks each of them.
  * - A table that only these functions wrote has no key twice. If one of the host's own making has, the first of its places is the channel, and a close
@@ -161,7 +163,8 @@ struct pik_answer pik_tick(const uint64_t *keys, size_t keys_length, uint64_t *w
                            uint64_t time);
 
 /* The host gives the channel up. All handles that wait come back in sequence order, none goes up, and nothing counts as lost. Its place is then zeros, and
- * free for any channel; a later frame with the same key opens a new one. Refused, as by number 7, the channel stays open. Numbers 1, 3, 4, 6, 7. */
+ * free for any channel; a later frame with the same key opens a new one. Refused, as by number 7, the channel stays open; the latest time that pik_look
+ * shows is never too early. Numbers 1, 3, 4, 6, 7. */
 struct pik_answer pik_close(uint64_t *keys, size_t keys_length, uint64_t *words, size_t words_length, uint32_t *handles, size_t handles_length,
                             uint8_t *marks, size_t marks_length, uint32_t *up, size_t up_length, uint32_t *returned, size_t returned_length,
                             uint16_t *nack, size_t nack_length, const uint8_t destination[6], const uint8_t source[6], uint8_t priority,
@@ -178,7 +181,7 @@ struct pik_view {
 };
 
 /* A look at a channel's record; nothing changes by it. For each number from M to C, in sequence order, an entry of both buffers is written: 1 and the
- * handle where it waits, 0 and the time since when it is missing. Each buffer must have 32 entries. Numbers 1, 3, 4, 6. */
+ * handle where it waits, 0 and the time since when it is missing. Each buffer must have at least 32 entries. Numbers 1, 3, 4, 6. */
 struct pik_view pik_look(const uint64_t *keys, size_t keys_length, const uint64_t *words, size_t words_length, const uint32_t *handles,
                          size_t handles_length, const uint8_t *marks, size_t marks_length, const uint8_t destination[6],
                          const uint8_t source[6], uint8_t priority, uint8_t *waits, size_t waits_length, uint64_t *values,
@@ -283,7 +286,7 @@ struct pik_written {
 struct pik_reading pik_rate_read(const uint8_t *frame, size_t frame_length);
 
 /* Writes a request with these addresses, six octets each, from the start of the output on: 60 octets, or more if the addresses need it, 270 at most.
- * Octets past the count are as they were. Refused, all of the output is. Numbers 15, 16, 23, 18, 19, 20, 21, 24, in this order, or 0. */
+ * Where there is no address, the length is 0 and the pointer any but NULL. Octets past the count are as they were. Refused, all of the output is. Numbers 15, 16, 23, 18, 19, 20, 21, 24, in this order, or 0. */
 struct pik_written pik_rate_write(uint8_t *out, size_t out_length, struct pik_request request, const uint8_t *addresses,
                                   size_t addresses_length);
 

@@ -58,7 +58,7 @@ module _ {H : Type 0} (count : H → ℕ) where
   raised hi ticked = hi
   raised hi closed = hi
 
-  -- no frame or reminder is accepted, by the numbers answered, more than the reach away from the highest accepted before it
+  -- each frame and reminder that is accepted, by the numbers answered, lies within the reach of the highest one accepted so far
   abbrev pub Within : ℕ → ℕ → List (Note H) → List ℕ → Type 0
   Within w hi [] rs = Unit
   Within w hi (n ∷ ns) [] = Unit
