@@ -4,6 +4,7 @@
 use Prim.Native.Nat.{ℕ, zero, suc, _+_, _≤_, _<_}
 use mathlib.Core.Path.{_≡_, refl, ap, sym, subst, _∙_}
 use mathlib.Core.Bool.{Bool, true, false, cond}
+use mathlib.Core.Option.{Option, some, none}
 use mathlib.Core.List.{List, [], _∷_}
 use native.Mathlib.Omega.{arith}
 use lib.ListN.{length, getD}
@@ -11,11 +12,11 @@ use lib.Dec.{eqb}
 use Rattle.ring.specs.Ring.{forward, steps, Side, Ahead, Behind, Far}
 use Rattle.ring.proofs.Sides.{Seen, sees}
 use Rattle.ring.proofs.Steps.{forward-steps}
-use Rattle.larq.specs.Channel.{Channel, window, reach, span, sound}
+use Rattle.larq.specs.Channel.{Cell, Channel, window, reach, span, sound}
 use Rattle.larq.specs.Answer.{holds, Outcome}
-use Rattle.larq.specs.Events.{Act, frame, reminder, tick, close, sideOf}
+use Rattle.larq.specs.Events.{Act, frame, reminder, tick, close, filling, filled, data-on, reminder-on, sideOf, act-on}
 use Rattle.larq.specs.Table.{Key, free, held, sameKey, Table, channels, room, Event, one, outcome}
-use Rattle.larq.specs.Demands.{restarts, entered, made, aheadBy}
+use Rattle.larq.specs.Demands.{isClose, restarts, entered, made, aheadBy}
 use Rattle.larq.proofs.Cases.{Passes, one-case, accepted-passes}
 use Rattle.larq.proofs.Sound.{Good, Joined, sound-is}
 use Rattle.larq.proofs.Moved.{Moves, moves, none-given-up}
@@ -84,6 +85,32 @@ made-near c = go
     go tick = omega arith
     go close = omega arith
 
+-- an event that is no close leaves a record
+module _ (c : Channel ℕ) (t : ℕ) where
+  abbrev Leaves : Outcome ℕ → Type 0
+  Leaves o = (d : Channel ℕ) × (o .change ≡ holds d)
+
+  filled-leaves : (h : ℕ) (o : Option (List (Cell ℕ))) → Leaves (filled window c t h o)
+  filled-leaves h none = (_, refl)
+  filled-leaves h (some ds) = (_, refl)
+
+  data-leaves : (s h : ℕ) (x : Side) → Leaves (data-on window c t s h x)
+  data-leaves s h (Ahead d) = (_, refl)
+  data-leaves s h (Behind d) = filled-leaves h (filling (c .cells) (steps (c .oldest) s) h)
+  data-leaves s h Far = (_, refl)
+
+  reminder-leaves : (s : ℕ) (x : Side) → Leaves (reminder-on window c t s x)
+  reminder-leaves s (Ahead d) = (_, refl)
+  reminder-leaves s (Behind d) = (_, refl)
+  reminder-leaves s Far = (_, refl)
+
+  act-leaves : (a : Act ℕ) → isClose a ≡ false → Leaves (act-on window c t a)
+  unfolding act-on
+  act-leaves (frame s h) n = data-leaves s h (sideOf window c s)
+  act-leaves (reminder s) n = reminder-leaves s (sideOf window c s)
+  act-leaves tick n = (_, refl)
+  act-leaves close n = absurd (let z : _≡_ {A = ℕ} 0 1 = cc in omega arith)
+
 -- An event for an open channel of a lent table; c is the first record of its key.
 module _ (s : Slices) (e : Event ℕ) (c : Channel ℕ) (cs : List (Channel ℕ)) (first : channels (e .key) (tableOf s) ≡ c ∷ cs) where
   passes-good : Passes window (room (tableOf s)) (c ∷ cs) e → Good window c
@@ -97,6 +124,13 @@ module _ (s : Slices) (e : Event ℕ) (c : Channel ℕ) (cs : List (Channel ℕ)
   -- 'The next expected number, here and in demand 3, is M': accepted data with the number M goes up first, in its own call. Assumes nothing.
   pub lent-at-once : (h : ℕ) → e .act ≡ frame (c .oldest) h → outcome window (tableOf s) e .answer .number ≡ 0 → UpFirst h (outcome window (tableOf s) e)
   lent-at-once h a ok = at-once window (omega arith) (tableOf s) e c cs h (accepted-good ok) first a ok
+
+  -- an accepted event that is no close leaves the channel open, with a record of which the two laws after this one speak. Assumes nothing.
+  pub accepted-leaves : outcome window (tableOf s) e .answer .number ≡ 0 → isClose (e .act) ≡ false
+      → (d : Channel ℕ) × (outcome window (tableOf s) e .change ≡ holds d)
+  unfolding outcome
+  accepted-leaves ok n =
+      rw (first, accepted-passes window (room (tableOf s)) (c ∷ cs) e (rw first at ok) .1) (act-leaves c (e .time) (e .act) n)
 
   module _ (d : Channel ℕ) (open-still : outcome window (tableOf s) e .change ≡ holds d) where
     holds-good : Good window c
