@@ -1,3 +1,4 @@
 pub mod Unique
 pub mod Running
 pub mod Lent
+pub mod Instances
