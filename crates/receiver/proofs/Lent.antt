@@ -32,7 +32,7 @@ use Rattle.arrivals.specs.Event.{Did}
 
 -- The record that the words of a place mean, whatever they are.
 module _ (words handles marks : List ℕ) where
-  -- 'for each number from M to C whether it waits or is missing': it has as many cells as its span says. Assumes nothing.
+  -- 'for each number from M to C whether it waits .. or is missing': it has as many cells as its span says. Assumes nothing.
   pub lent-span : length (recordOf words handles marks .cells) ≡ span (recordOf words handles marks)
   unfolding recordWith
   lent-span = length-window (cellAt words handles marks) (getD words 1 0) (spanOf (getD words 0 0) (getD words 1 0)) ∙ omega arith
@@ -171,7 +171,7 @@ lent-bounded s e = go (channels (e .key) (tableOf s)) refl
         (λ p is. subst (λ (o : Outcome ℕ). Bounded window (o .answer)) (sym (first-alone (room (tableOf s)) c cs e) ∙ is)
         (bounded window (omega arith) (omega arith) (room (tableOf s)) (c ∷ []) e (passes-good s e c cs first p, tt))) refl
 
--- So are the counts that the host is given by a call. Assumes nothing.
+-- the counts that a call gives the host keep the same bounds. Assumes nothing.
 pub counts-bounded : (e : Event ℕ) (before after : Slices) (had has : Buffers) (given : Answer) → Did e before after had has given
     → (given .up ≤ 32) × (given .returned ≤ 31) × (given .nack ≤ 32)
 counts-bounded e before after had has given d =
