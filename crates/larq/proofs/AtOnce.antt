@@ -49,7 +49,7 @@ module _ {H : Type 0} (w : ℕ) (half : w < 1024) (c : Channel H) (t : ℕ) (g :
       some (suc n) e = omega arith
   data-up Far q = ([], refl)
 
--- Data with the number M for an open channel whose record is as the box keeps it: if accepted, its handle goes up first in this very call
+-- Data with the number M for an open channel whose record is good: if accepted, its handle goes up first in this very call
 pub at-once : {H : Type 0} (w : ℕ) → w < 1024 → (t : Table H) (e : Event H) (c : Channel H) (cs : List (Channel H)) (h : H) → Good w c
     → channels (e .key) t ≡ c ∷ cs → e .act ≡ frame (c .oldest) h → outcome w t e .answer .number ≡ 0 → UpFirst h (outcome w t e)
 unfolding outcome act-on

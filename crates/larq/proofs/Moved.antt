@@ -93,7 +93,7 @@ module _ {H : Type 0} (w : ℕ) (half : w < 1024) (c : Channel H) (t : ℕ) (g :
   act-moves tick n = walked-moves (stale t) (c .current) 0 (c .cells) (λ p r. none-asked p (r .by - length (c .cells)))
   act-moves close n = λ d e. absurd (let z : _≡_ {A = ℕ} 0 1 = cc in omega arith)
 
--- An event that leaves the channel open, and is no restart: the lost count is that of the missing numbers that M passed, what went up are
+-- On a good record, an event that leaves the channel open and is no restart: the lost count is that of the missing numbers that M passed, what went up are
 -- the waiting ones, and what is asked for again is the run of numbers made missing by this call past those that it gave up.
 pub moves : {H : Type 0} (w : ℕ) → w < 1024 → (spare : Bool) (c : Channel H) (cs : List (Channel H)) (e : Event H) → Good w c → restarts w c (e .act) ≡ false
     → (d : Channel H) → one w spare (c ∷ cs) e .change ≡ holds d

@@ -23,7 +23,7 @@ use Rattle.larq.proofs.Keys.{sameKey-eq, afterChange, step-own, step-ot
 use Rattle.larq.proofs.Walk.{Passed, walk-passes, walk-head, walk-short}
 use Rattle.larq.proofs.Orderly.{both-true, times-append, times-missing, orderly-wider, orderly-more, orderly-drop, OnSome, Filled, filling-orderly}
 
--- the tests of a sound record, as facts; and its cells reach from M to C
+-- the tests of a sound record, as facts
 pub record Sound {H : Type 0} (w : ℕ) (c : Channel H) : Type 0 where
   pub current : c .current ≤ 4095
   pub oldest : c .oldest ≤ 4095
@@ -50,7 +50,8 @@ sound-is w c e =
       times = f .1;
     }
 
--- a record that a table may hold: sound, and its cells reach from M to C
+-- a record that is not broken, and whose cells reach from M to C. In a lent table every one that is not broken is good (`lent-good` of
+-- receiver/proofs/Lent)
 pub record Good {H : Type 0} (w : ℕ) (c : Channel H) : Type 0 where
   pub sound : Sound w c
   pub joined : Joined c

@@ -2,15 +2,13 @@
 -- its later record is broken. Assumes nothing.
 use Prim.Native.Nat.{ℕ}
 use mathlib.Core.Path.{_≡_, refl, ap}
-use mathlib.Core.List.{List, [], _∷_, _++_}
+use mathlib.Core.List.{[], _∷_, _++_}
 use lib.ListN.{replicate}
 use Rattle.ring.specs.Ring.{rising, side, distance}
 use Rattle.larq.specs.Channel.{waits, missing, Channel, window, sound}
 use Rattle.larq.specs.Events.{frame, asked, act-on}
 use Rattle.larq.specs.Table.{Key, sameKey, channels, Event, one, outcome}
-use Rattle.larq.specs.Demands.{entered}
-use Rattle.larq.proofs.Moved.{Moves}
-use Rattle.larq.proofs.AtOnce.{UpFirst}
+use Rattle.larq.specs.Demands.{entered, Moves, UpFirst}
 use Rattle.record.specs.Place.{recordWith}
 use Rattle.record.specs.Place as place
 use Rattle.channel.specs.Call.{Buffers, buffers}

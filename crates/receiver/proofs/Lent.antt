@@ -16,12 +16,12 @@ use Rattle.larq.specs.Channel.{Cell, Channel, window, reach, span, sound}
 use Rattle.larq.specs.Answer.{holds, Outcome}
 use Rattle.larq.specs.Events.{Act, frame, reminder, tick, close, filling, filled, data-on, reminder-on, sideOf, act-on}
 use Rattle.larq.specs.Table.{Key, free, held, sameKey, Table, channels, room, Event, one, outcome}
-use Rattle.larq.specs.Demands.{isClose, restarts, entered, made, aheadBy}
+use Rattle.larq.specs.Demands.{isClose, restarts, entered, made, aheadBy, Moves, UpFirst, Bounded}
 use Rattle.larq.proofs.Cases.{Passes, one-case, accepted-passes}
 use Rattle.larq.proofs.Sound.{Good, Joined, sound-is}
-use Rattle.larq.proofs.Moved.{Moves, moves, none-given-up}
-use Rattle.larq.proofs.AtOnce.{UpFirst, at-once}
-use Rattle.larq.proofs.Bounds.{Bounded, bounded}
+use Rattle.larq.proofs.Moved.{moves, none-given-up}
+use Rattle.larq.proofs.AtOnce.{at-once}
+use Rattle.larq.proofs.Bounds.{bounded}
 use Rattle.record.specs.Place.{cellAt, spanOf, recordWith, recordOf}
 use Rattle.record.proofs.Windows.{length-window}
 use Rattle.channel.specs.Call.{Buffers}
@@ -32,19 +32,19 @@ use Rattle.arrivals.specs.Event.{Did}
 
 -- The record that the words of a place mean, whatever they are.
 module _ (words handles marks : List ℕ) where
-  -- 'for each number from M to C whether it waits .. or is missing': it has as many cells as its span says. Assumes nothing.
+  -- 'for each number from M to C whether it waits .. or is missing': it has as many cells as its span says.
   pub lent-span : length (recordOf words handles marks .cells) ≡ span (recordOf words handles marks)
   unfolding recordWith
   lent-span = length-window (cellAt words handles marks) (getD words 1 0) (spanOf (getD words 0 0) (getD words 1 0)) ∙ omega arith
 
-  -- and they end at C. Assumes nothing.
+  -- and they end at C.
   pub lent-joined : Joined (recordOf words handles marks)
   unfolding recordWith
   lent-joined =
       ap (forward (getD words 1 0)) (length-window (cellAt words handles marks) (getD words 1 0) (spanOf (getD words 0 0) (getD words 1 0)))
       ∙ forward-steps (getD words 1 0) (getD words 0 0 + 1)
 
-  -- 'A record is broken if ..': one that is not is good. Assumes nothing.
+  -- 'A record is broken if ..': one that is not is good.
   pub lent-good : sound window (recordOf words handles marks) ≡ true → Good window (recordOf words handles marks)
   lent-good e = record { sound = sound-is window (recordOf words handles marks) e; joined = lent-joined }
 
@@ -116,16 +116,16 @@ module _ (s : Slices) (e : Event ℕ) (c : Channel ℕ) (cs : List (Channel ℕ)
   passes-good : Passes window (room (tableOf s)) (c ∷ cs) e → Good window c
   passes-good p = subst AllLent first (lent-places (e .key) (λ j. atPlace j s) places 0) .0 (p .whole)
 
-  -- 'the addressed record is broken' is number 6, so an accepted event found a good one. Assumes nothing.
+  -- 'the addressed record is broken' is number 6, so an accepted event found a good one.
   pub accepted-good : outcome window (tableOf s) e .answer .number ≡ 0 → Good window c
   unfolding outcome
   accepted-good ok = passes-good (accepted-passes window (room (tableOf s)) (c ∷ cs) e (rw first at ok) .0)
 
-  -- 'The next expected number, here and in demand 3, is M': accepted data with the number M goes up first, in its own call. Assumes nothing.
+  -- 'The next expected number, here and in demand 3, is M': accepted data with the number M goes up first, in its own call.
   pub lent-at-once : (h : ℕ) → e .act ≡ frame (c .oldest) h → outcome window (tableOf s) e .answer .number ≡ 0 → UpFirst h (outcome window (tableOf s) e)
   lent-at-once h a ok = at-once window (omega arith) (tableOf s) e c cs h (accepted-good ok) first a ok
 
-  -- an accepted event that is no close leaves the channel open, with a record of which the two laws after this one speak. Assumes nothing.
+  -- an accepted event that is no close leaves the channel open, with a record of which the two laws after this one speak.
   pub accepted-leaves : outcome window (tableOf s) e .answer .number ≡ 0 → isClose (e .act) ≡ false
       → (d : Channel ℕ) × (outcome window (tableOf s) e .change ≡ holds d)
   unfolding outcome
@@ -139,14 +139,14 @@ module _ (s : Slices) (e : Event ℕ) (c : Channel ℕ) (cs : List (Channel ℕ)
         one-case window (room (tableOf s)) (c ∷ cs) e (λ (o : Outcome ℕ). o .change ≡ holds d → Good window c)
         (λ _ q. absurd (let z : _≡_ {A = ℕ} 0 1 = cc in omega arith)) (λ p _. passes-good p) (rw first at open-still)
 
-    -- 'a lost count .. equals the missing numbers M passed': of every event that leaves the channel open and is no restart. Assumes nothing.
+    -- 'a lost count .. equals the missing numbers M passed': of every event that leaves the channel open and is no restart.
     pub lent-moves : restarts window c (e .act) ≡ false
         → Moves c (entered window c (e .time) (e .act)) (made window c (e .act)) (outcome window (tableOf s) e .answer) d
     unfolding outcome
     lent-moves n =
         rw first (moves window (omega arith) (room (tableOf s)) c cs e holds-good n d (rw first at open-still))
 
-    -- 'NACK for a number that the same call gave up' is an earlier box's slip: each number asked for lies past those that M passed. Assumes nothing.
+    -- 'NACK for a number that the same call gave up' is an earlier box's slip: each number asked for lies past those that M passed.
     pub lent-none-given-up : (m : Moves c (entered window c (e .time) (e .act)) (made window c (e .act)) (outcome window (tableOf s) e .answer) d)
         → (i : ℕ) → i < length (outcome window (tableOf s) e .answer .nack) → m .by ≤ steps (c .oldest) (getD (outcome window (tableOf s) e .answer .nack) i 0)
     lent-none-given-up m =
@@ -158,7 +158,7 @@ first-alone : (spare : Bool) (c : Channel ℕ) (cs : List (Channel ℕ)) (e : Ev
 unfolding one
 first-alone spare c cs e = refl
 
--- 'At most 32 handles go up and at most 31 come back', and at most 32 numbers are asked for: by any event on any table. Assumes nothing.
+-- 'At most 32 handles go up and at most 31 come back', and at most 32 numbers are asked for: by any event on any table.
 pub lent-bounded : (s : Slices) (e : Event ℕ) → Bounded window (outcome window (tableOf s) e .answer)
 unfolding outcome
 lent-bounded s e = go (channels (e .key) (tableOf s)) refl
@@ -171,7 +171,7 @@ lent-bounded s e = go (channels (e .key) (tableOf s)) refl
         (λ p is. subst (λ (o : Outcome ℕ). Bounded window (o .answer)) (sym (first-alone (room (tableOf s)) c cs e) ∙ is)
         (bounded window (omega arith) (omega arith) (room (tableOf s)) (c ∷ []) e (passes-good s e c cs first p, tt))) refl
 
--- the counts that a call gives the host keep the same bounds. Assumes nothing.
+-- the counts that a call gives the host keep the same bounds.
 pub counts-bounded : (e : Event ℕ) (before after : Slices) (had has : Buffers) (given : Answer) → Did e before after had has given
     → (given .up ≤ 32) × (given .returned ≤ 31) × (given .nack ≤ 32)
 counts-bounded e before after had has given d =
