@@ -28,19 +28,19 @@ static inline unsigned slot(unsigned number)
     return number % SLOTS;
 }
 
+/* An address as a number. The last four octets are one group and the first two another, so that a compiler can load each group at once. */
 static inline uint64_t address(const uint8_t octets[6])
 {
-    uint64_t number = 0;
-    for (int i = 0; i < 6; i++)
-        number = number << 8 | octets[i];
-    return number;
+    uint64_t two = (uint64_t)octets[0] << 8 | octets[1];
+    uint64_t four = (uint64_t)octets[2] << 24 | (uint64_t)octets[3] << 16 | (uint64_t)octets[4] << 8 | octets[5];
+    return two << 32 | four;
 }
 
-/* The first place with this key. */
+/* The first place with this key. The source is tested first, as in the archive: it is what most channels of a table differ in. */
 static inline int find(const uint64_t *keys, uint64_t first, uint64_t second)
 {
     for (int i = 0; i < PLACES; i++)
-        if (keys[2 * i] == first && keys[2 * i + 1] == second)
+        if (keys[2 * i + 1] == second && keys[2 * i] == first)
             return i;
     return NOWHERE;
 }
@@ -87,6 +87,19 @@ static inline uint8_t judge(struct place p, uint64_t time)
     if (broken(p))
         return PIK_BROKEN;
     return time < p.words[2] ? PIK_EARLY : PIK_ACCEPTED;
+}
+
+/* Where the place of a channel is that has to be open; below 0 it is the number that refuses the call: 3, 4, 6 or 7. */
+static inline int known_place(const uint64_t *keys, uint64_t *words, uint32_t *handles, uint8_t *marks, const uint8_t destination[6],
+                              const uint8_t source[6], uint8_t priority, uint64_t time)
+{
+    if (priority > 7)
+        return -PIK_NO_PRIORITY;
+    int i = find(keys, address(destination) * 16 + priority + 1, address(source));
+    if (i == NOWHERE)
+        return -PIK_NO_CHANNEL;
+    uint8_t refusal = judge(place_at(words, handles, marks, i), time);
+    return refusal ? -refusal : i;
 }
 
 /* The waiting handles among n numbers from `from` on, into `out`. */
@@ -220,22 +233,17 @@ struct pik_answer PEER_FN(reminder)(const uint64_t *keys, size_t keys_length, ui
         return refused(PIK_MISFIT);
     if (number >= RING)
         return refused(PIK_NO_NUMBER);
-    if (priority > 7)
-        return refused(PIK_NO_PRIORITY);
-    int i = find(keys, address(destination) * 16 + priority + 1, address(source));
-    if (i == NOWHERE)
-        return refused(PIK_NO_CHANNEL);
+    int i = known_place(keys, words, handles, marks, destination, source, priority, time);
+    if (i < 0)
+        return refused((uint8_t)-i);
     struct place p = place_at(words, handles, marks, i);
-    uint8_t refusal = judge(p, time);
-    if (refusal)
-        return refused(refusal);
     unsigned d = steps((unsigned)p.words[0], number);
     if (d >= 1 && d <= REACH)
         return ahead(p, d, NULL, time, up, nack);
     if (d > REACH && d < RING - REACH)
         return refused(PIK_FAR);
     p.words[2] = time;
-    return refused(PIK_ACCEPTED);
+    return (struct pik_answer){.number = PIK_ACCEPTED};
 }
 
 struct pik_answer PEER_FN(tick)(const uint64_t *keys, size_t keys_length, uint64_t *words, size_t words_length, uint32_t *handles,
@@ -247,15 +255,10 @@ struct pik_answer PEER_FN(tick)(const uint64_t *keys, size_t keys_length, uint64
     (void)nack;
     if (!lent(keys_length, words_length, handles_length, marks_length, up_length, returned_length, nack_length))
         return refused(PIK_MISFIT);
-    if (priority > 7)
-        return refused(PIK_NO_PRIORITY);
-    int i = find(keys, address(destination) * 16 + priority + 1, address(source));
-    if (i == NOWHERE)
-        return refused(PIK_NO_CHANNEL);
+    int i = known_place(keys, words, handles, marks, destination, source, priority, time);
+    if (i < 0)
+        return refused((uint8_t)-i);
     struct place p = place_at(words, handles, marks, i);
-    uint8_t refusal = judge(p, time);
-    if (refusal)
-        return refused(refusal);
     struct pik_answer answer = {0};
     unsigned oldest = (unsigned)p.words[1];
     for (unsigned n = span(p.words); n > 0; n--) {
@@ -282,15 +285,10 @@ struct pik_answer PEER_FN(close)(uint64_t *keys, size_t keys_length, uint64_t *w
     (void)nack;
     if (!lent(keys_length, words_length, handles_length, marks_length, up_length, returned_length, nack_length))
         return refused(PIK_MISFIT);
-    if (priority > 7)
-        return refused(PIK_NO_PRIORITY);
-    int i = find(keys, address(destination) * 16 + priority + 1, address(source));
-    if (i == NOWHERE)
-        return refused(PIK_NO_CHANNEL);
+    int i = known_place(keys, words, handles, marks, destination, source, priority, time);
+    if (i < 0)
+        return refused((uint8_t)-i);
     struct place p = place_at(words, handles, marks, i);
-    uint8_t refusal = judge(p, time);
-    if (refusal)
-        return refused(refusal);
     struct pik_answer answer = {0};
     answer.returned = hand(p, (unsigned)p.words[1], span(p.words), returned);
     memset(keys + 2 * i, 0, 2 * sizeof *keys);

@@ -58,9 +58,12 @@ fn steps(from: u16, to: u16) -> u16 {
     to.wrapping_sub(from) % RING
 }
 
+/// An address as a number. The last four octets are one load and the first two another.
 fn address(octets: &[u8; 6]) -> u64 {
     let [a, b, c, d, e, f] = *octets;
-    u64::from_be_bytes([0, 0, a, b, c, d, e, f])
+    let two = u16::from_be_bytes([a, b]);
+    let four = u32::from_be_bytes([c, d, e, f]);
+    u64::from(two) << 32 | u64::from(four)
 }
 
 impl Key<'_> {
@@ -81,8 +84,11 @@ fn part<T, const SIZE: usize>(slice: &mut [T], place: usize) -> &mut [T; SIZE] {
     part.try_into().expect("a part of that size")
 }
 
-fn find(keys: &Keys, key: [u64; 2]) -> Option<usize> {
-    keys.chunks_exact(2).position(|stored| stored == key)
+/// The first place with this key. The source is tested first, as in the archive: it is what most channels of a table
+/// differ in.
+fn find(keys: &Keys, [first, second]: [u64; 2]) -> Option<usize> {
+    keys.chunks_exact(2)
+        .position(|stored| stored[1] == second && stored[0] == first)
 }
 
 #[inline(always)]
@@ -377,6 +383,9 @@ pub mod exported {
                 if table != (KEYS, WORDS, HANDLES, MARKS) {
                     return refused(1);
                 }
+                // SAFETY: the lengths were just seen to be a table's and the buffers', and the host owes that each
+                // pointer leads to so many elements, aligned, and that what is written overlaps nothing else; an address
+                // has six octets.
                 let (keys, lent, key) = unsafe {
                     let lent = Lent {
                         words: &mut *words.cast(),
