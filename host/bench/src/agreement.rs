@@ -1,14 +1,15 @@
 //! What is seen before anything is measured: all implementations give the same answers, and they are the right ones.
 
 use crate::implementations::Implementation;
-use crate::scenarios::Scenarios;
+use crate::measure::ROOM;
+use crate::scenarios::{Events, Scenarios, Single};
 use compare::sessions::request_of;
 use peer::make::Maker;
 use peer::random::Random;
 use peer::receiver::ChannelEvent;
 use peer::session::Event;
 use pikurandal::lent::{Buffers, Slices};
-use pikurandal::raw::{Frame, Station};
+use pikurandal::raw::{Frame, Request, Station, Written};
 
 /// How many random calls, and how many events of a random session, each implementation is tried on.
 const TRIED: u64 = 20_000;
@@ -16,14 +17,21 @@ const TRIED: u64 = 20_000;
 /// The most octets an output has.
 const LARGEST_ROOM: u16 = 1_600;
 
-/// Each implementation against the independent program on random lent tables, and against the first one, the archive, on
-/// random frames and on what is measured. The archive's own answers to frames are held against the independent program's.
+/// Each implementation against the independent program on random lent tables and on what is measured, and against the
+/// first one, the archive, on random frames and on what is measured. The archive's own answers to random frames are held
+/// against the independent program's.
 pub fn seen(implementations: &[Implementation], scenarios: &Scenarios) -> Result<(), String> {
     let archive = &implementations[0];
     compare::sessions::compare(1, TRIED, |_| ()).map_err(|mismatch| format!("{}: {mismatch}", archive.name))?;
     for implementation in implementations {
         on_lent_tables(implementation)?;
         on_frames(implementation, archive)?;
+        for events in scenarios.events() {
+            on_calls(implementation, events)?;
+        }
+        for (name, single) in scenarios.singles() {
+            on_single(implementation, name, single)?;
+        }
         on_scenarios(implementation, archive, scenarios)?;
     }
     Ok(())
@@ -33,6 +41,58 @@ fn on_lent_tables(implementation: &Implementation) -> Result<(), String> {
     let taken =
         |slices: Slices<'_>, buffers: Buffers<'_>, event: &ChannelEvent| implementation.take(slices, buffers, event);
     compare::lent::compare(&taken, 1, TRIED, |_| ()).map_err(|mismatch| format!("{}: {mismatch}", implementation.name))
+}
+
+/// Each call of a scenario, judged by the independent program.
+fn on_calls(implementation: &Implementation, events: &Events) -> Result<(), String> {
+    let taken =
+        |slices: Slices<'_>, buffers: Buffers<'_>, event: &ChannelEvent| implementation.take(slices, buffers, event);
+    let mut random = Random::from_seed(1);
+    let mut tables = events.start.clone();
+    for (table, event) in &events.calls {
+        compare::lent::judged(&taken, &mut random, &mut tables[*table], (events.buffers, event))
+            .map_err(|account| format!("{}: '{}': {account}", implementation.name, events.name))?;
+    }
+    Ok(())
+}
+
+/// A frame that is read or a request that is written, beside the independent program. That one has no station of any
+/// given sets, so a capability frame is held against the archive alone.
+fn on_single(implementation: &Implementation, name: &str, single: &Single) -> Result<(), String> {
+    let (given, expected) = match single {
+        Single::Read(frame) => {
+            let reading = implementation.rate_read(frame);
+            let octets = &frame[reading.start..][..reading.extent];
+            let expected = match peer::rate::read(frame) {
+                Ok(expected) => (0, request_of(&expected.request), expected.num_addr, expected.addresses),
+                Err(number) => (number, Request::default(), 0, [].as_slice()),
+            };
+            let given = (reading.number, reading.request, reading.addresses, octets);
+            (format!("{given:?}"), format!("{expected:?}"))
+        }
+        Single::Write(request, addresses, frame) => {
+            let mut out = [0xff; ROOM];
+            let written = implementation.rate_write(&mut out, *request, addresses);
+            let mut expected_out = [0xff; ROOM];
+            expected_out[..frame.len()].copy_from_slice(frame);
+            let expected = Written {
+                number: 0,
+                count: frame.len(),
+            };
+            (
+                format!("{:?}", (written, out)),
+                format!("{:?}", (expected, expected_out)),
+            )
+        }
+        Single::Receive(..) => return Ok(()),
+    };
+    if given == expected {
+        return Ok(());
+    }
+    Err(format!(
+        "{}: '{name}' is answered {given}; peer: {expected}",
+        implementation.name
+    ))
 }
 
 /// The answers, the tables after them and the written octets of one pass over each scenario.

@@ -4,6 +4,7 @@ use crate::implementations::Implementation;
 use crate::scenarios::{Events, Single};
 use peer::lent::Lent;
 use peer::receiver::ChannelEvent;
+use peer::table::Table;
 use pikurandal::lent::{Buffers, Slices};
 use pikurandal::raw::Answer;
 use std::arch::asm;
@@ -12,8 +13,8 @@ use std::time::{Duration, Instant};
 /// How many calls a pass over a single call makes.
 const CALLS: usize = 2_048;
 
-/// The most octets that a request takes.
-const ROOM: usize = 300;
+/// Octets of an output: more than a request takes.
+pub const ROOM: usize = 300;
 
 /// A scenario in the state that its passes work on.
 pub struct Stage<'a> {
@@ -62,14 +63,7 @@ impl OwnedBuffers {
 impl<'a> Stage<'a> {
     /// The stage of a scenario of channel events.
     pub fn of_events(events: &'a Events) -> Stage<'a> {
-        let mut places: Vec<usize> = events
-            .calls
-            .iter()
-            .map(|(_, event)| event.key.source[5].into())
-            .collect();
-        places.sort_unstable();
-        places.dedup();
-        places.retain(|place| *place < pikurandal::lent::PLACES);
+        let places = addressed(events);
         let buffers = OwnedBuffers {
             up: vec![0; events.buffers.up],
             returned: vec![0; events.buffers.returned],
@@ -133,7 +127,7 @@ impl<'a> Stage<'a> {
                 out.fill(0xff);
                 let answer = match single {
                     Single::Read(frame) => format!("{:?}", implementation.rate_read(frame)),
-                    Single::Write(request, addresses) => {
+                    Single::Write(request, addresses, _) => {
                         format!("{:?}", implementation.rate_write(out, *request, addresses))
                     }
                     Single::Receive(station, opcode, frame) => {
@@ -147,6 +141,20 @@ impl<'a> Stage<'a> {
             }
         }
     }
+}
+
+/// The places that the calls address: those of their channels, or the first free one, where the channel is opened.
+fn addressed(events: &Events) -> Vec<usize> {
+    let of_64_places = |start: &Lent| Table::from_slices(&start.slices()).expect("a table of 64 places");
+    let tables: Vec<Table> = events.start.iter().map(of_64_places).collect();
+    let place = |(table, event): &(usize, ChannelEvent)| {
+        let table = &tables[*table];
+        table.channel_of(&event.key).or_else(|| table.first_free())
+    };
+    let mut places: Vec<usize> = events.calls.iter().filter_map(place).collect();
+    places.sort_unstable();
+    places.dedup();
+    places
 }
 
 /// What an answer's counts say was written.
@@ -203,7 +211,7 @@ fn calls_of_single(implementation: &Implementation, single: &Single, out: &mut [
             Single::Read(frame) => {
                 black_box(implementation.rate_read(black_box(frame)));
             }
-            Single::Write(request, addresses) => {
+            Single::Write(request, addresses, _) => {
                 black_box(implementation.rate_write(out, black_box(*request), black_box(addresses)));
             }
             Single::Receive(station, opcode, frame) => {

@@ -1,7 +1,9 @@
 //! What is measured: for each scenario the tables at its start and the calls, or the frames.
 
 use crate::measure::Stage;
+use compare::sessions::request_of;
 use peer::lent::Lent;
+use peer::rate::Band;
 use peer::receiver::{Act, Buffers, ChannelEvent};
 use peer::record::{Cell, Record};
 use peer::table::{Key, Owner};
@@ -23,8 +25,8 @@ pub struct Events {
 pub enum Single {
     /// A frame to read.
     Read(Vec<u8>),
-    /// A request to write, with its addresses.
-    Write(Request, Vec<u8>),
+    /// A request to write, with its addresses, and the frame that it gives.
+    Write(Request, Vec<u8>, Vec<u8>),
     /// A capability frame to receive.
     Receive(Station, u8, Frame),
 }
@@ -42,6 +44,16 @@ impl Scenarios {
             events: events(),
             singles: singles(),
         }
+    }
+
+    /// Those of channel events.
+    pub fn events(&self) -> &[Events] {
+        &self.events
+    }
+
+    /// Those of one call, each by its name.
+    pub fn singles(&self) -> &[(&'static str, Single)] {
+        &self.singles
     }
 
     /// Each by its name, in the state that its passes begin with.
@@ -66,6 +78,15 @@ fn key(place: usize) -> Key {
         destination: [2, 0, 0, 0, 0, 1],
         source: [2, 0, 0, 0, 1, place as u8],
         priority: (place % 8) as u8,
+    }
+}
+
+/// The key of the channel at a place of a table whose channels have one source.
+fn key_of_one_source(place: usize) -> Key {
+    Key {
+        destination: [2, 0, 0, 0, 0, place as u8],
+        source: [2, 0, 0, 0, 1, 0],
+        ..key(place)
     }
 }
 
@@ -101,6 +122,11 @@ fn falling(current: u64) -> Record {
 
 /// A table with channels open at its first places, all with this record.
 fn table(open: usize, record: &Record) -> Lent {
+    table_of(open, key, record)
+}
+
+/// Such a table, its channels by their keys.
+fn table_of(open: usize, key: fn(usize) -> Key, record: &Record) -> Lent {
     let mut lent = Lent::empty();
     for place in 0..open {
         lent.put(place, &Owner::Channel(key(place)), record);
@@ -151,6 +177,19 @@ fn reversed(index: u64) -> ChannelEvent {
 fn gap_and_fill(index: u64) -> ChannelEvent {
     let steps = if index % 2 == 0 { index + 2 } else { index };
     data(0, 1_000 + index, steps)
+}
+
+/// Ticks of the last of 64 channels that have one source, so that each key before it differs in its first word alone.
+fn one_source(name: &'static str) -> Events {
+    let tick = |index| ChannelEvent {
+        key: key_of_one_source(63),
+        time: 1_000 + index,
+        act: Act::Tick,
+    };
+    Events {
+        start: vec![table_of(64, key_of_one_source, &quiet(10))],
+        ..running(name, 64, tick)
+    }
 }
 
 /// The scenarios of channel events.
@@ -220,6 +259,7 @@ fn events() -> Vec<Events> {
         running("lookup, place 31", 64, tick_at(31)),
         running("lookup, place 63", 64, tick_at(63)),
         running("lookup, absent", 64, tick_at(64)),
+        one_source("lookup, place 63, one source"),
     ];
     let mut short = running("refused by 1", 1, in_order(0));
     short.buffers.nack = 31;
@@ -231,28 +271,31 @@ fn events() -> Vec<Events> {
 }
 
 /// A request with one or two bands.
-fn request(bands: u8) -> Request {
-    let two = bands == 2;
-    Request {
+fn request(bands: u8) -> peer::rate::Request {
+    peer::rate::Request {
         destination: [2, 0, 0, 0, 0, 1],
         source: [2, 0, 0, 0, 0, 2],
         opcode: 1,
-        bands,
-        pe1: 4,
-        rank1: 1,
-        pe2: if two { 12 } else { 0 },
-        rank2: if two { 2 } else { 0 },
+        num_bands: bands,
+        band_1: Band { pe: 4, rank: 1 },
+        band_2: match bands {
+            2 => Band { pe: 12, rank: 2 },
+            _ => Band::default(),
+        },
     }
+}
+
+/// The frame of such a request, as the second program writes it.
+fn frame(bands: u8, addresses: &[u8]) -> Vec<u8> {
+    let mut out = vec![0; 300];
+    let count = peer::rate::write(&request(bands), addresses, &mut out).expect("a request that can be written");
+    out.truncate(count);
+    out
 }
 
 /// The scenarios of frames.
 fn singles() -> Vec<(&'static str, Single)> {
     let forty = [3, 0, 0, 0, 0, 9].repeat(40);
-    let frame = |bands, addresses: &[u8]| {
-        let mut out = [0; 300];
-        let count = pikurandal::rate::write(&mut out, &request(bands), addresses);
-        out[..count.unwrap_or(0)].to_vec()
-    };
     let mut refused = frame(2, &forty);
     refused[264] = 1;
     let station = Station {
@@ -268,12 +311,15 @@ fn singles() -> Vec<(&'static str, Single)> {
         current_tx: 0x1011,
         current_rx: 0x2011,
     };
+    let write = |bands, addresses: &[u8]| {
+        Single::Write(request_of(&request(bands)), addresses.to_vec(), frame(bands, addresses))
+    };
     vec![
         ("read, no address", Single::Read(frame(1, &[]))),
         ("read, 40 addresses", Single::Read(frame(2, &forty))),
         ("read, refused by 22", Single::Read(refused)),
-        ("write, no address", Single::Write(request(1), Vec::new())),
-        ("write, 40 addresses", Single::Write(request(2), forty)),
+        ("write, no address", write(1, &[])),
+        ("write, 40 addresses", write(2, &forty)),
         ("capability frame", Single::Receive(station, 1, heard)),
     ]
 }

@@ -87,6 +87,16 @@ fn on_random_tables(
 
 fn one_call(taken: Taken<'_>, random: &mut Random, table: &mut Lent) -> Result<(), String> {
     let (lengths, event) = tables::call(random, &table.slices());
+    judged(taken, random, table, (lengths, &event))
+}
+
+/// One call with buffers of these lengths that hold random litter before it, judged by `peer`.
+pub fn judged(
+    taken: Taken<'_>,
+    random: &mut Random,
+    table: &mut Lent,
+    (lengths, event): (Buffers, &ChannelEvent),
+) -> Result<(), String> {
     let before = table.clone();
     let had = Owned::of_litter(random, lengths);
     let mut has = had.clone();
@@ -102,11 +112,11 @@ fn one_call(taken: Taken<'_>, random: &mut Random, table: &mut Lent) -> Result<(
             returned: &mut has.returned,
             nack: &mut has.nack,
         },
-        &event,
+        event,
     );
     let asked = format!("{event:?} with {lengths:?} is answered {counts:?}");
     let answer = answer_of(&counts, &has).ok_or_else(|| format!("{asked}: a count is above its buffer's length"))?;
-    judge(&before.slices(), (lengths, &event), &answer, &table.slices())
+    judge(&before.slices(), (lengths, event), &answer, &table.slices())
         .map_err(|complaint| format!("{asked}, {answer:?}; peer: {complaint:?}"))?;
     rest_is_untouched(&counts, &had, &has).map_err(|buffer| format!("{asked}: {buffer} is written past its count"))?;
     match changed_places(&before.slices(), &table.slices()) {
