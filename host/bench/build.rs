@@ -1,6 +1,7 @@
-//! Compiles the peers in C at -O3, once with each of gcc and clang that can compile for the target.
+//! Compiles the peers in C at -O3, once with each of gcc and clang that is on this machine. One that is there but cannot
+//! compile for the target ends the build: a peer must not be missing unseen.
 
-use std::path::Path;
+use std::path::{Path, PathBuf};
 use std::process::Command;
 use std::{env, process};
 
@@ -11,9 +12,13 @@ const LEVEL: &str = "-O3";
 fn main() {
     println!("cargo:rerun-if-changed=c");
     println!("cargo:rerun-if-changed=../../include");
+    println!("cargo:rerun-if-env-changed=PATH");
     let out = env::var("OUT_DIR").unwrap_or_default();
     let mut found = Vec::new();
     for (name, words) in compilers() {
+        if let Some(file) = file_of(&words[0]) {
+            println!("cargo:rerun-if-changed={}", file.display());
+        }
         if let Some(version) = version(&words[0]) {
             compile(name, &words, Path::new(&out));
             println!("cargo:rustc-cfg=peer_{name}");
@@ -38,6 +43,13 @@ fn version(compiler: &str) -> Option<String> {
     let said = Command::new(compiler).arg("--version").output().ok()?;
     let said = String::from_utf8_lossy(&said.stdout).into_owned();
     said.lines().next().map(str::to_string)
+}
+
+/// Where a command stands, so that another one of that name is seen.
+fn file_of(command: &str) -> Option<PathBuf> {
+    let folders = env::var_os("PATH")?;
+    let mut files = env::split_paths(&folders).map(|folder| folder.join(command));
+    files.find(|file| file.is_file())
 }
 
 /// The compilers, each by the words of its command.

@@ -108,7 +108,7 @@ fn instructions(implementations: &[Implementation], name: &str, stage: &mut Stag
     let costs = |implementation| Some(instructions_of(implementation, name, stage)? - nothing?);
     let costs: Option<Vec<f64>> = implementations.iter().map(costs).collect();
     if costs.is_none() {
-        eprintln!("the instruction counter could not be run");
+        eprintln!("the instruction counter could not be run, or its run of '{name}' failed");
     }
     costs
 }
@@ -120,7 +120,8 @@ fn instructions_of(implementation: &Implementation, name: &str, stage: &Stage<'_
     Some((many - few) / (more * stage.calls()) as f64)
 }
 
-/// All instructions of a run with so many passes. The counter is a command that says them last, as callgrind does.
+/// All instructions of a run with so many passes, if it ended well. The counter is a command that says them last, as
+/// callgrind does.
 fn collected(implementation: &Implementation, name: &str, passes: usize) -> Option<f64> {
     let counter = std::env::var("BENCH_COUNTER").unwrap_or_else(|_| COUNTER.to_string());
     let mut words = counter.split_whitespace();
@@ -130,6 +131,9 @@ fn collected(implementation: &Implementation, name: &str, passes: usize) -> Opti
         .args(["passes", &passes.to_string(), implementation.name, name])
         .output()
         .ok()?;
+    if !run.status.success() {
+        return None;
+    }
     let said = String::from_utf8_lossy(&run.stderr).into_owned();
     let count = said.lines().find_map(|line| line.split("Collected :").nth(1))?;
     count.trim().parse::<f64>().ok()
