@@ -5,7 +5,10 @@ use std::error::Error;
 use std::fmt;
 
 /// Why a call was refused. A refused call has changed and written nothing.
+///
+/// More numbers may come, so a `match` has to have a case for those that it does not name.
 #[derive(Clone, Copy, Debug, PartialEq, Eq, Hash)]
+#[non_exhaustive]
 #[repr(u8)]
 pub enum Refusal {
     /// 1: an answer buffer has fewer than 32 entries, or a slice of the table has not its length.
@@ -18,7 +21,8 @@ pub enum Refusal {
     NoChannel = 4,
     /// 5: the channel would be new, and no place is free.
     NoPlace = 5,
-    /// 6: the channel's record is broken.
+    /// 6: the channel's record is broken: someone else wrote to the slices. Every event of that channel is refused so, its
+    /// close too, until the table is emptied or the place is zeros.
     Broken = 6,
     /// 7: the time is earlier than the channel's latest.
     Early = 7,
@@ -61,7 +65,7 @@ pub enum Refusal {
 
 impl Refusal {
     /// All refusals, by rising number.
-    pub const ALL: [Refusal; 24] = [
+    pub const ALL: &'static [Refusal] = &[
         Refusal::Misfit,
         Refusal::NoNumber,
         Refusal::NoPriority,
@@ -95,7 +99,7 @@ impl Refusal {
 
     /// The refusal of this number.
     pub fn of_number(number: u8) -> Option<Refusal> {
-        Refusal::ALL.into_iter().find(|refusal| refusal.number() == number)
+        Refusal::ALL.iter().copied().find(|refusal| refusal.number() == number)
     }
 
     /// Accepted, or the refusal of an answer's number.

@@ -101,7 +101,8 @@ impl Table {
     ///
     /// # Errors
     ///
-    /// [`Refusal::NoNumber`], [`Refusal::NoPriority`], [`Refusal::NoPlace`], [`Refusal::Early`].
+    /// [`Refusal::NoNumber`], [`Refusal::NoPriority`], [`Refusal::NoPlace`], [`Refusal::Early`]. A refused frame was not
+    /// taken, so its handle stays the host's.
     pub fn data(&mut self, channel: &Channel, time: u64, number: u16, handle: u32) -> Result<Answer<'_>, Refusal> {
         self.event(|slices, buffers| lent::data(slices, buffers, channel, time, number, handle))
     }
@@ -141,7 +142,8 @@ impl Table {
     ///
     /// # Errors
     ///
-    /// [`Refusal::NoPriority`], [`Refusal::NoChannel`], [`Refusal::Early`].
+    /// [`Refusal::NoPriority`], [`Refusal::NoChannel`], [`Refusal::Early`]. The time that [`look`](Table::look) shows as the
+    /// latest is never too early.
     pub fn close(&mut self, channel: &Channel, time: u64) -> Result<Answer<'_>, Refusal> {
         self.event(|slices, buffers| lent::close(slices, buffers, channel, time))
     }
