@@ -31,6 +31,10 @@ fn main() {
     }
     println!("cargo:rustc-link-search=native={out}");
     let rustc = version(&env::var("RUSTC").unwrap_or_default()).unwrap_or_default();
+    // Cargo before 1.80 does not know this line, and warns of it.
+    if minor_version(&rustc) >= Some(80) {
+        println!("cargo:rustc-check-cfg=cfg(peer_gcc, peer_clang)");
+    }
     let level = env::var("OPT_LEVEL").unwrap_or_default();
     println!(
         "cargo:rustc-env=BENCH_COMPILERS={rustc} at level {level}, {}",
@@ -43,6 +47,11 @@ fn version(compiler: &str) -> Option<String> {
     let said = Command::new(compiler).arg("--version").output().ok()?;
     let said = String::from_utf8_lossy(&said.stdout).into_owned();
     said.lines().next().map(str::to_string)
+}
+
+/// The second number of a version.
+fn minor_version(said: &str) -> Option<u32> {
+    said.split('.').nth(1)?.parse().ok()
 }
 
 /// Where a command stands, so that another one of that name is seen.

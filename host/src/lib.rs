@@ -21,6 +21,7 @@
 //! # Ok::<(), pikurandal::Refusal>(())
 //! ```
 
+#![deny(unsafe_op_in_unsafe_fn)]
 #![warn(missing_docs)]
 
 pub mod lent;

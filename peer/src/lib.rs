@@ -5,6 +5,9 @@
 //! and does not want to be: where the paper says 'while', it loops; where the paper says 'the numbers from M to C', it
 //! keeps that list.
 
+#![forbid(unsafe_code)]
+#![warn(missing_docs)]
+
 pub mod answer;
 pub mod capability;
 pub mod lent;

@@ -1,5 +1,7 @@
 //! The program: makes random sessions, answers sessions, and writes the example session.
 
+#![forbid(unsafe_code)]
+
 use peer::make::{self, Ending, Maker};
 use peer::{session, story};
 use std::io::{self, BufWriter, Read, Write};

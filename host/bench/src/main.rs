@@ -1,6 +1,7 @@
 //! The archive beside the same functions written by hand in Rust and C: the same input, in one run.
 
 #![deny(unsafe_op_in_unsafe_fn)]
+#![warn(missing_docs)]
 
 mod agreement;
 mod implementations;

@@ -3,6 +3,9 @@
 //! [`lent`] makes random lent tables and calls on them, [`sessions`] random sessions. What differs is a [`Mismatch`],
 //! which a seed and an index find again.
 
+#![forbid(unsafe_code)]
+#![warn(missing_docs)]
+
 pub mod lent;
 pub mod sessions;
 

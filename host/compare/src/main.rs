@@ -1,5 +1,7 @@
 //! The program: compares the archive with `peer` on random lent tables and random sessions.
 
+#![forbid(unsafe_code)]
+
 use compare::{lent, sessions, Mismatch};
 use std::process::ExitCode;
 

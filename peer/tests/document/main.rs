@@ -1,5 +1,7 @@
 //! Document 01 held against this program: its runs at the edges, its numbers in order, its frames, sets and tables.
 
+#![forbid(unsafe_code)]
+
 mod capability;
 mod edges;
 mod lent;

@@ -99,6 +99,7 @@ fn write(out: &mut [u8], q: &Request, addresses: &[u8]) -> Result<usize, u8> {
 ///
 /// What `include/pikurandal.h` asks of the host.
 pub unsafe extern "C" fn rate_read(frame: *const u8, frame_length: usize) -> Reading {
+    // SAFETY: the host owes that the pointer leads to so many octets, and that nobody writes to them until the call ends.
     let frame = unsafe { from_raw_parts(frame, frame_length) };
     read(frame).unwrap_or_else(|number| Reading {
         number,
@@ -118,6 +119,8 @@ pub unsafe extern "C" fn rate_write(
     addresses: *const u8,
     addresses_length: usize,
 ) -> Written {
+    // SAFETY: the host owes that each pointer leads to so many octets, and that the output, which alone is written,
+    // overlaps no address and is nobody else's until the call ends.
     let (out, addresses) = unsafe {
         (
             from_raw_parts_mut(out, out_length),
