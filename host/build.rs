@@ -17,6 +17,12 @@ fn main() {
         eprintln!("Make it first, from the repository's root: host/archive");
         process::exit(1);
     }
+    if arch != "x86_64" {
+        println!(
+            "cargo:warning=this archive is the proved module compiled once more for {arch}, for tests and \
+             measurements; what is promised is the archive for x86-64"
+        );
+    }
     println!("cargo:rustc-link-search=native={}", folder.display());
     println!("cargo:rustc-link-lib=static=wallbox");
 }
