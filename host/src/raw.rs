@@ -133,118 +133,60 @@ pub struct View {
     pub span: usize,
 }
 
-/// A channel event's function: the table's four slices, the three buffers, the key, the time, and the event's own words.
-macro_rules! channel_event {
-    ($keys:ty $(, $own:ty)*) => {
-        unsafe extern "C" fn(
-            $keys, usize, *mut u64, usize, *mut u32, usize, *mut u8, usize,
-            *mut u32, usize, *mut u32, usize, *mut u16, usize,
-            *const [u8; 6], *const [u8; 6], u8, u64, $($own),*
-        ) -> Answer
+/// The channel events, each as a function and that function's type. All begin with the table's four slices, the three
+/// buffers, the key and the time; then come the event's own words.
+macro_rules! channel_events {
+    ($($(#[$says:meta])* $type:ident: $name:ident($keys:ty $(, $own:ident: $word:ty)*);)+) => {
+        $(
+            #[doc = concat!("The type of [`", stringify!($name), "`].")]
+            pub type $type = unsafe extern "C" fn(
+                $keys, usize, *mut u64, usize, *mut u32, usize, *mut u8, usize,
+                *mut u32, usize, *mut u32, usize, *mut u16, usize,
+                *const [u8; 6], *const [u8; 6], u8, u64, $($word),*
+            ) -> Answer;
+        )+
+
+        extern "C" {
+            $(
+                $(#[$says])*
+                pub fn $name(
+                    keys: $keys,
+                    keys_length: usize,
+                    words: *mut u64,
+                    words_length: usize,
+                    handles: *mut u32,
+                    handles_length: usize,
+                    marks: *mut u8,
+                    marks_length: usize,
+                    up: *mut u32,
+                    up_length: usize,
+                    returned: *mut u32,
+                    returned_length: usize,
+                    nack: *mut u16,
+                    nack_length: usize,
+                    destination: *const [u8; 6],
+                    source: *const [u8; 6],
+                    priority: u8,
+                    time: u64,
+                    $($own: $word),*
+                ) -> Answer;
+            )+
+        }
     };
 }
 
-/// The type of [`pik_data`].
-pub type Data = channel_event!(*mut u64, u16, u32);
-/// The type of [`pik_reminder`].
-pub type Reminder = channel_event!(*const u64, u16);
-/// The type of [`pik_tick`].
-pub type Tick = channel_event!(*const u64);
-/// The type of [`pik_close`].
-pub type Close = channel_event!(*mut u64);
+channel_events! {
+    /// A data frame.
+    Data: pik_data(*mut u64, number: u16, handle: u32);
+    /// A reminder.
+    Reminder: pik_reminder(*const u64, number: u16);
+    /// A tick.
+    Tick: pik_tick(*const u64);
+    /// A close.
+    Close: pik_close(*mut u64);
+}
 
 extern "C" {
-    /// A data frame.
-    pub fn pik_data(
-        keys: *mut u64,
-        keys_length: usize,
-        words: *mut u64,
-        words_length: usize,
-        handles: *mut u32,
-        handles_length: usize,
-        marks: *mut u8,
-        marks_length: usize,
-        up: *mut u32,
-        up_length: usize,
-        returned: *mut u32,
-        returned_length: usize,
-        nack: *mut u16,
-        nack_length: usize,
-        destination: *const [u8; 6],
-        source: *const [u8; 6],
-        priority: u8,
-        time: u64,
-        number: u16,
-        handle: u32,
-    ) -> Answer;
-
-    /// A reminder.
-    pub fn pik_reminder(
-        keys: *const u64,
-        keys_length: usize,
-        words: *mut u64,
-        words_length: usize,
-        handles: *mut u32,
-        handles_length: usize,
-        marks: *mut u8,
-        marks_length: usize,
-        up: *mut u32,
-        up_length: usize,
-        returned: *mut u32,
-        returned_length: usize,
-        nack: *mut u16,
-        nack_length: usize,
-        destination: *const [u8; 6],
-        source: *const [u8; 6],
-        priority: u8,
-        time: u64,
-        number: u16,
-    ) -> Answer;
-
-    /// A tick.
-    pub fn pik_tick(
-        keys: *const u64,
-        keys_length: usize,
-        words: *mut u64,
-        words_length: usize,
-        handles: *mut u32,
-        handles_length: usize,
-        marks: *mut u8,
-        marks_length: usize,
-        up: *mut u32,
-        up_length: usize,
-        returned: *mut u32,
-        returned_length: usize,
-        nack: *mut u16,
-        nack_length: usize,
-        destination: *const [u8; 6],
-        source: *const [u8; 6],
-        priority: u8,
-        time: u64,
-    ) -> Answer;
-
-    /// A close.
-    pub fn pik_close(
-        keys: *mut u64,
-        keys_length: usize,
-        words: *mut u64,
-        words_length: usize,
-        handles: *mut u32,
-        handles_length: usize,
-        marks: *mut u8,
-        marks_length: usize,
-        up: *mut u32,
-        up_length: usize,
-        returned: *mut u32,
-        returned_length: usize,
-        nack: *mut u16,
-        nack_length: usize,
-        destination: *const [u8; 6],
-        source: *const [u8; 6],
-        priority: u8,
-        time: u64,
-    ) -> Answer;
-
     /// Empties a table.
     pub fn pik_empty(
         keys: *mut u64,
