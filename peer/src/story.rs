@@ -84,7 +84,8 @@ fn the_place_used_again() -> Vec<Event> {
     ]
 }
 
-/// On channel 2 a number is given up after 150 ticks; then frames far ahead restart it, and what waited comes back.
+/// On channel 2 a number is given up after 150 ticks; then a frame far ahead restarts it, and what waited comes
+/// back.
 fn given_up_and_restarted() -> Vec<Event> {
     vec![
         data(2, 110, 2),

@@ -188,9 +188,10 @@ fn a_freed_place_holds_zeros() {
     assert_eq!(first_difference(&before.slices(), &table, &key_only.slices()), Some(2));
 }
 
-/// Calls on random lent tables, stored by this program's own hand, mean what they should.
+/// The table after a call on a random lent table, stored in slices by this program's own hand, is read back as that table.
+/// It says nothing of the call's answer, which is this program's own.
 #[test]
-fn random_calls_agree_with_themselves() {
+fn tables_after_random_calls_are_stored_and_read_back() {
     let mut random = Random::from_seed(3);
     for round in 0..2_000 {
         let free_places = [FreePlaces::Zeros, FreePlaces::Littered][round % 2];
