@@ -4,7 +4,7 @@ use crate::implementations::Implementation;
 use crate::scenarios::{Events, Single};
 use peer::lent::Lent;
 use peer::receiver::ChannelEvent;
-use peer::table::Table;
+use peer::table::{Key, Table};
 use pikurandal::lent::{Buffers, Slices};
 use pikurandal::raw::Answer;
 use std::arch::asm;
@@ -147,11 +147,10 @@ impl<'a> Stage<'a> {
 fn addressed(events: &Events) -> Vec<usize> {
     let of_64_places = |start: &Lent| Table::from_slices(&start.slices()).expect("a table of 64 places");
     let tables: Vec<Table> = events.start.iter().map(of_64_places).collect();
-    let place = |(table, event): &(usize, ChannelEvent)| {
-        let table = &tables[*table];
-        table.channel_of(&event.key).or_else(|| table.first_free())
-    };
-    let mut places: Vec<usize> = events.calls.iter().filter_map(place).collect();
+    let mut channels: Vec<(usize, Key)> = events.calls.iter().map(|(table, event)| (*table, event.key)).collect();
+    channels.dedup();
+    let place = |(table, key): &(usize, Key)| tables[*table].channel_of(key).or_else(|| tables[*table].first_free());
+    let mut places: Vec<usize> = channels.iter().filter_map(place).collect();
     places.sort_unstable();
     places.dedup();
     places
