@@ -215,16 +215,17 @@ fn rest_is_untouched(counts: &raw::Answer, had: &Owned, has: &Owned) -> Result<(
 
 /// Of how many places any word changed: a call addresses one, and every other keeps its very words.
 fn changed_places(before: &Slices<'_>, after: &Slices<'_>) -> usize {
-    let places = |slices: &Slices<'_>| {
-        let keys = slices.keys.chunks(lent::KEYS / lent::PLACES).map(<[u64]>::to_vec);
-        let words = slices.words.chunks(lent::WORDS / lent::PLACES).map(<[u64]>::to_vec);
-        let handles = slices.handles.chunks(lent::HANDLES / lent::PLACES).map(<[u32]>::to_vec);
-        let marks = slices.marks.chunks(lent::MARKS / lent::PLACES).map(<[u8]>::to_vec);
-        keys.zip(words).zip(handles).zip(marks).collect::<Vec<_>>()
+    let changed = |place: &usize| {
+        part(before.keys, *place) != part(after.keys, *place)
+            || part(before.words, *place) != part(after.words, *place)
+            || part(before.handles, *place) != part(after.handles, *place)
+            || part(before.marks, *place) != part(after.marks, *place)
     };
-    if before == after {
-        return 0;
-    }
-    let pairs = places(before).into_iter().zip(places(after));
-    pairs.filter(|(was, is)| was != is).count()
+    (0..lent::PLACES).filter(changed).count()
+}
+
+/// What a place has of a slice.
+fn part<T>(slice: &[T], place: usize) -> &[T] {
+    let size = slice.len() / lent::PLACES;
+    &slice[size * place..][..size]
 }
