@@ -43,17 +43,28 @@ fn on_lent_tables(implementation: &Implementation) -> Result<(), String> {
     compare::lent::compare(&taken, 1, TRIED, |_| ()).map_err(|mismatch| format!("{}: {mismatch}", implementation.name))
 }
 
-/// Each call of a scenario, judged by the independent program.
+/// Each call of a scenario, judged by the independent program, which also has to give the number that the name says.
 fn on_calls(implementation: &Implementation, events: &Events) -> Result<(), String> {
     let taken =
         |slices: Slices<'_>, buffers: Buffers<'_>, event: &ChannelEvent| implementation.take(slices, buffers, event);
     let mut random = Random::from_seed(1);
     let mut tables = events.start.clone();
     for (table, event) in &events.calls {
+        let (expected, _) = peer::lent::take(&tables[*table].slices(), events.buffers, event);
+        is_as_named(events.name, expected.number)?;
         compare::lent::judged(&taken, &mut random, &mut tables[*table], (events.buffers, event))
             .map_err(|account| format!("{}: '{}': {account}", implementation.name, events.name))?;
     }
     Ok(())
+}
+
+/// A scenario that is called 'refused by' a number is refused by that one.
+fn is_as_named(name: &str, number: u8) -> Result<(), String> {
+    let said = name.split("refused by ").nth(1).and_then(|rest| rest.split(',').next());
+    match said {
+        Some(said) if said != number.to_string() => Err(format!("'{name}' is answered by number {number}")),
+        _ => Ok(()),
+    }
 }
 
 /// A frame that is read or a request that is written, beside the independent program. That one has no station of any
@@ -67,6 +78,7 @@ fn on_single(implementation: &Implementation, name: &str, single: &Single) -> Re
                 Ok(expected) => (0, request_of(&expected.request), expected.num_addr, expected.addresses),
                 Err(number) => (number, Request::default(), 0, [].as_slice()),
             };
+            is_as_named(name, expected.0)?;
             let given = (reading.number, reading.request, reading.addresses, octets);
             (format!("{given:?}"), format!("{expected:?}"))
         }
