@@ -1,8 +1,8 @@
--- A walk over the places by one word of their keys: with so many places left, what is still to be walked finds what the whole walk finds. And
+-- A walk over the places by one word of their keys: with j words before the place, what is still to be walked finds what the whole walk finds. And
 -- what the first place of a source says of the first place of a key. Assumes nothing.
-use Prim.Native.Nat.{ℕ, _+_, _*_, _-_, _<_, _≤_}
+use Prim.Native.Nat.{ℕ, _+_, _*_, _-_, _/_, _<_, _≤_}
 use mathlib.Core.Path.{_≡_, refl, ap, sym, _∙_}
-use mathlib.Core.Bool.{Bool, false, and-false}
+use mathlib.Core.Bool.{Bool, true, false, and-false}
 use mathlib.Core.List.{List}
 use native.Mathlib.Omega.{arith}
 use borrow.Author.Tests.{eq-eqb, ne-eqb}
@@ -17,34 +17,38 @@ module _ (keys : List ℕ) (w word : ℕ) where
   abbrev test : ℕ → Bool
   test = hasWord keys w word
 
-  pub record Walked (left : ℕ) : Type 0 where
-    pub low : left ≤ 64
-    pub still : firstPlace test ≡ firstFrom test (64 - left) (64 - (64 - left))
+  pub record Walked (j : ℕ) : Type 0 where
+    pub even : j ≡ 2 * (j / 2)
+    pub high : j ≤ 128
+    pub still : firstPlace test ≡ firstFrom test (j / 2) (64 - j / 2)
 
-  pub begins : Walked 64
-  begins = record { low = omega arith; still = refl }
+  pub begins : Walked 0
+  begins = record { even = refl; high = omega arith; still = refl }
 
-  module _ (left : ℕ) (before : Walked left) where
-    more-left : (left ≡ 0 → ⊥) → 64 - left < 64
-    more-left more = omega (arith, before .low)
+  module _ (j : ℕ) (before : Walked j) where
+    more-left : (j ≡ 128 → ⊥) → j / 2 < 64
+    more-left more = omega (arith, before .even, before .high)
 
-    pub goes-on : (left ≡ 0 → ⊥) → (getD keys (2 * (64 - left) + w) 0 ≡ word → ⊥) → Walked (left - 1)
+    word-is : (b : Bool) → eqb (getD keys (j + w) 0) word ≡ b → test (j / 2) ≡ b
+    word-is b e = ap (λ (x : ℕ). eqb (getD keys (x + w) 0) word) (sym (before .even)) ∙ e
+
+    pub goes-on : (j ≡ 128 → ⊥) → (getD keys (j + w) 0 ≡ word → ⊥) → Walked (j + 2)
     goes-on more other =
-        let next : (64 - left) + 1 ≡ 64 - (left - 1) = omega (arith, before .low) in
+        let next : j / 2 + 1 ≡ (j + 2) / 2 = omega arith in
         record {
-          low = omega (arith, before .low);
+          even = omega (arith, before .even);
+          high = omega (arith, before .even, before .high);
           still =
               before .still
-              ∙ past test 64 (64 - left) (more-left more) (ne-eqb (getD keys (2 * (64 - left) + w) 0) word other)
+              ∙ past test 64 (j / 2) (more-left more) (word-is false (ne-eqb (getD keys (j + w) 0) word other))
               ∙ ap (λ (x : ℕ). firstFrom test x (64 - x)) next;
         }
 
-    pub ends : left ≡ 0 → Nothing ≡ firstPlace test
-    ends over = sym (before .still ∙ none test 64 (64 - left) (omega arith))
+    pub ends : j ≡ 128 → Nothing ≡ firstPlace test
+    ends over = sym (before .still ∙ none test 64 (j / 2) (omega arith))
 
-    pub found : (left ≡ 0 → ⊥) → getD keys (2 * (64 - left) + w) 0 ≡ word → At (64 - left) ≡ firstPlace test
-    found more same =
-        sym (before .still ∙ here test 64 (64 - left) (more-left more) (eq-eqb (getD keys (2 * (64 - left) + w) 0) word same))
+    pub found : (j ≡ 128 → ⊥) → getD keys (j + w) 0 ≡ word → At (j / 2) ≡ firstPlace test
+    found more same = sym (before .still ∙ here test 64 (j / 2) (more-left more) (word-is true (eq-eqb (getD keys (j + w) 0) word same)))
 
 module _ (keys : List ℕ) (first second : ℕ) where
   abbrev ofSource : ℕ → Bool

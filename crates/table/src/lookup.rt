@@ -4,6 +4,7 @@ ghost use Prim.Native.Nat.{_-_, _<_, _≤_};
 ghost use lib.ListN.{length};
 ghost use Rattle.table.specs.First.{firstFrom, firstPlace, hasWord, stores, storesNone};
 use crate::KEY_WORDS;
+use crate::KEYS_IN_ALL;
 use crate::PLACES;
 
 // What a walk over the places finds.
@@ -21,21 +22,20 @@ fn is_stored(keys: &[u64], i: usize, first: u64, second: u64) -> bool
 }
 
 // The first place whose key has this word: the first word where `which` is 0, the source where it is 1. A lookup at a late place takes its time
-// here: one test a place, and one counter, of the places that are left.
+// here: one test a place, and one counter, of the words before the place.
 fn first_with(keys: &[u64], which: usize, word: u64) -> Found
     requires { ⌜ (length (now keys) ≡ 128) × (which < 2) ⌝ }
     ensures { λ r. ⌜ r ≡ firstPlace (hasWord (now (keys .entry)) which word) ⌝ }
 {
-    let mut left = PLACES;
+    let mut j = 0;
     let place = loop {
-        if left == 0 {
+        if j == KEYS_IN_ALL {
             break Found::Nothing;
         }
-        let at = PLACES - left;
-        if keys[KEY_WORDS * at + which] == word {
-            break Found::At(at);
+        if keys[j + which] == word {
+            break Found::At(j / KEY_WORDS);
         }
-        left -= 1;
+        j += KEY_WORDS;
     };
     place
 }

@@ -1,35 +1,30 @@
--- `first_with` meets its contract: at each turn the places that are left hold the first that has the word, if one does.
+-- `first_with` meets its contract: at each turn the places from the one with j words before it hold the first that has the word, if one does.
+use Prim.Native.Nat.{_-_}
 use borrow.Author.Needs.{needs}
 use Rattle.table.proofs.Walking.{Walked, begins, goes-on, ends, found}
 use Rattle.table.proofs.lookup.first_with.Statement.{statement}
 use Rattle.table.proofs.lookup.first_with.Tie as tie
 
 abbrev Inv-loop : tie.InvT-loop
-Inv-loop keys which word left₀ left = Walked keys which word left
+Inv-loop keys which word j₀ j = Walked keys which word j
 
 abbrev μ-loop : tie.MeasureT-loop
-μ-loop keys which word left₀ left = left
+μ-loop keys which word j₀ j = 128 - j
 
 loop-holds : tie.Need-loop-holds Inv-loop μ-loop
 loop-holds c = begins _ _ _
 
-sub-at : tie.Need-sub-at Inv-loop μ-loop
-sub-at c = search needs
+add-if2 : tie.Need-add-if2 Inv-loop μ-loop
+add-if2 c = search needs
 
 mul-if2 : tie.Need-mul-if2 Inv-loop μ-loop
 mul-if2 c = search needs
 
-add-if2 : tie.Need-add-if2 Inv-loop μ-loop
-add-if2 c = search needs
-
-mul-if2-2 : tie.Need-mul-if2-2 Inv-loop μ-loop
-mul-if2-2 c = search needs
-
 shared-slice-read-if2 : tie.Need-shared-slice-read-if2 Inv-loop μ-loop
 shared-slice-read-if2 c = search needs
 
-sub-left : tie.Need-sub-left Inv-loop μ-loop
-sub-left c = search needs
+add-j : tie.Need-add-j Inv-loop μ-loop
+add-j c = search needs
 
 loop-less : tie.Need-loop-less Inv-loop μ-loop
 loop-less c = search needs
@@ -45,5 +40,4 @@ returns-2 c = found _ _ _ _ (c .before .before .before .loop .inv) (c .before .b
 
 pub first-with-spec : {M : Type 1} → statement M
 first-with-spec =
-    tie.close
-    (tie.spec Inv-loop μ-loop loop-holds sub-at mul-if2 add-if2 mul-if2-2 shared-slice-read-if2 sub-left loop-less loop-again returns returns-2)
+    tie.close (tie.spec Inv-loop μ-loop loop-holds add-if2 mul-if2 shared-slice-read-if2 add-j loop-less loop-again returns returns-2)
