@@ -1,26 +1,28 @@
 //! Document 01's 65th channel ('Runs at the edges'): number 5, and after one close it opens, at the place that is free.
 
-use pikurandal::{lent, raw, Channel, Refusal};
+mod common;
 
-/// A table's slices and the answer buffers, so that a test can look at the keys.
+use common::{channel, Owned};
+use pikurandal::{lent, raw, Refusal};
+
+/// A table's slices and the answer buffers.
 #[derive(Clone, Debug, PartialEq, Eq)]
-struct Owned {
-    keys: Vec<u64>,
-    words: Vec<u64>,
-    handles: Vec<u32>,
-    marks: Vec<u8>,
+struct Lent {
+    table: Owned,
     up: [u32; lent::BUFFER],
     returned: [u32; lent::BUFFER],
     nack: [u16; lent::BUFFER],
 }
 
-impl Owned {
-    fn empty() -> Owned {
-        Owned {
-            keys: vec![0; lent::KEYS],
-            words: vec![0; lent::WORDS],
-            handles: vec![0; lent::HANDLES],
-            marks: vec![0; lent::MARKS],
+impl Lent {
+    fn empty() -> Lent {
+        Lent {
+            table: Owned {
+                keys: vec![0; lent::KEYS],
+                words: vec![0; lent::WORDS],
+                handles: vec![0; lent::HANDLES],
+                marks: vec![0; lent::MARKS],
+            },
             up: [0; lent::BUFFER],
             returned: [0; lent::BUFFER],
             nack: [0; lent::BUFFER],
@@ -28,8 +30,8 @@ impl Owned {
     }
 
     /// 64 channels, each with a frame that waits.
-    fn full() -> Owned {
-        let mut table = Owned::empty();
+    fn full() -> Lent {
+        let mut table = Lent::empty();
         for source in 0..64 {
             assert_eq!(table.data(source, 100, 10).number, raw::ACCEPTED);
             assert_eq!(table.data(source, 100, 12).number, raw::ACCEPTED);
@@ -38,18 +40,12 @@ impl Owned {
     }
 
     fn lent(&mut self) -> (lent::Slices<'_>, lent::Buffers<'_>) {
-        let slices = lent::Slices {
-            keys: &mut self.keys,
-            words: &mut self.words,
-            handles: &mut self.handles,
-            marks: &mut self.marks,
-        };
         let buffers = lent::Buffers {
             up: &mut self.up,
             returned: &mut self.returned,
             nack: &mut self.nack,
         };
-        (slices, buffers)
+        (self.table.slices(), buffers)
     }
 
     fn data(&mut self, source: u8, time: u64, number: u16) -> raw::Answer {
@@ -63,15 +59,7 @@ impl Owned {
     }
 
     fn keys_at(&self, place: u8) -> &[u64] {
-        &self.keys[2 * usize::from(place)..][..2]
-    }
-}
-
-fn channel(source: u8) -> Channel {
-    Channel {
-        destination: [2, 0, 0, 0, 0, 1],
-        source: [2, 0, 0, 0, 0, source],
-        priority: 3,
+        &self.table.keys[2 * usize::from(place)..][..2]
     }
 }
 
@@ -86,7 +74,7 @@ fn handle(source: u8, number: u16) -> u32 {
 
 #[test]
 fn the_65th_channel_is_refused_by_5() {
-    let mut table = Owned::full();
+    let mut table = Lent::full();
     let before = table.clone();
     let answer = table.data(64, 100, 10);
     assert_eq!(answer.number, Refusal::NoPlace.number());
@@ -96,7 +84,7 @@ fn the_65th_channel_is_refused_by_5() {
 #[test]
 fn after_one_close_the_65th_channel_opens_at_that_place() {
     let closed = 41;
-    let mut table = Owned::full();
+    let mut table = Lent::full();
     assert_eq!(table.close(closed, 101).returned, 1);
     assert_eq!(table.returned[0], handle(closed, 12));
     assert_eq!(table.keys_at(closed), [0, 0]);
@@ -113,7 +101,7 @@ fn after_one_close_the_65th_channel_opens_at_that_place() {
 #[test]
 fn after_one_close_and_an_opening_the_others_still_answer() {
     let closed = 41;
-    let mut table = Owned::full();
+    let mut table = Lent::full();
     table.close(closed, 101);
     table.data(64, 101, 10);
     for source in (0..64).filter(|source| *source != closed) {
