@@ -8,7 +8,7 @@ use lib.ListN.{length, getD}
 use lib.Dec.{leb}
 use Rattle.wire.specs.Refusals.{Refusal, _else_, first}
 use Rattle.larq.specs.Channel.{window, reach, Cell, Channel, headMissing, times, orderly, sound}
-use Rattle.ring.specs.Ring.{steps, seen, Ahead, Behind, Far}
+use Rattle.ring.specs.Ring.{isNumber, steps, seen, Ahead, Behind, Far}
 use Rattle.larq.specs.Table.{Lent, lentEnough, notBefore}
 use Rattle.record.specs.Place as place
 use Rattle.record.specs.Place.{cellAt, spanOf, recordOf}
@@ -26,7 +26,7 @@ timesOf words marks m n = times (place.window (cellAt words [] marks) m n)
 -- the parts of the test that a record is not broken: C and M are in the ring; the span is not above the window, M is missing if anything is,
 -- and the times of missing numbers are in order
 abbrev pub inRing : List ℕ → Bool
-inRing words = leb (getD words 0 0) 4095 && leb (getD words 1 0) 4095
+inRing words = isNumber (getD words 0 0) && isNumber (getD words 1 0)
 
 abbrev pub shapely : ℕ → List (Cell ℕ) → Bool
 shapely latest cells = leb (length cells) window && (headMissing cells && orderly 0 latest (times cells))
@@ -38,7 +38,7 @@ inShape c m words marks = shapely (getD words 2 0) (place.window (cellAt words [
 abbrev pub common : Lent → ℕ → ℕ → Channel ℕ → List Refusal
 common lent s time c =
     (lentEnough window lent else 1)
-    ∷ ((leb s 4095 else 2) ∷ ((sound window c else 6) ∷ ((notBefore time c else 7) ∷ [])))
+    ∷ ((isNumber s else 2) ∷ ((sound window c else 6) ∷ ((notBefore time c else 7) ∷ [])))
 
 -- one of them fails, and the number is given
 pub record RefusedBy (tests : List Refusal) (number : ℕ) : Type 0 where

@@ -5,7 +5,7 @@ use mathlib.Core.Bool.{Bool, true, false, _&&_}
 use mathlib.Core.List.{List, [], _∷_}
 use lib.ListN.{length}
 use lib.Dec.{leb}
-use Rattle.ring.specs.Ring.{next, steps}
+use Rattle.ring.specs.Ring.{isNumber, next, steps}
 
 -- the waiting window, the house's choice
 abbrev pub window : ℕ
@@ -58,5 +58,5 @@ headMissing (missing t ∷ cs) = true
 -- a record that is not broken, by the window w
 unfoldable pub sound : {H : Type 0} → ℕ → Channel H → Bool
 sound w c =
-    leb (c .current) 4095
-    && (leb (c .oldest) 4095 && (leb (length (c .cells)) w && (headMissing (c .cells) && orderly 0 (c .latest) (times (c .cells)))))
+    isNumber (c .current)
+    && (isNumber (c .oldest) && (leb (length (c .cells)) w && (headMissing (c .cells) && orderly 0 (c .latest) (times (c .cells)))))

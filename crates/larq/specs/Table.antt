@@ -5,7 +5,7 @@ use mathlib.Core.Bool.{Bool, true, false, cond, _&&_, _||_, not}
 use mathlib.Core.List.{List, [], _∷_}
 use lib.Dec.{leb, eqb}
 use Rattle.wire.specs.Refusals.{Refusal, _else_, answered}
-use Rattle.ring.specs.Ring.{Side, isFar}
+use Rattle.ring.specs.Ring.{isNumber, Side, isFar}
 use Rattle.larq.specs.Channel.{Channel, sound}
 use Rattle.larq.specs.Answer.{Change, same, holds, freed, Outcome, refused, accepted}
 use Rattle.larq.specs.Events.{Act, frame, reminder, tick, close, opened, sideOf, act-on}
@@ -76,14 +76,17 @@ lentEnough w l = (leb w (l .up) && (leb w (l .returned) && leb w (l .nack))) && 
 
 -- number 2
 abbrev pub numberInRing : {H : Type 0} → Act H → Bool
-numberInRing (frame s h) = leb s 4095
-numberInRing (reminder s) = leb s 4095
+numberInRing (frame s h) = isNumber s
+numberInRing (reminder s) = isNumber s
 numberInRing tick = true
 numberInRing close = true
 
 -- number 3
+abbrev pub isPriority : ℕ → Bool
+isPriority p = leb p 7
+
 abbrev pub priorityFits : Key → Bool
-priorityFits k = leb (k .priority) 7
+priorityFits k = isPriority (k .priority)
 
 abbrev pub isData : {H : Type 0} → Act H → Bool
 isData (frame s h) = true

@@ -4,7 +4,7 @@
 use Prim.Native.Nat.{ℕ, zero, suc, _+_, _-_, _%_}
 use mathlib.Core.Bool.{Bool, true, false, cond}
 use mathlib.Core.List.{List, [], _∷_}
-use lib.Dec.{ltb}
+use lib.Dec.{leb, ltb}
 use lib.IntN.{ℤ, pos, negsuc, subℕ}
 
 -- how many numbers the ring has, and half of them
@@ -13,6 +13,10 @@ size = 4096
 
 abbrev pub half : ℕ
 half = 2048
+
+-- a number that the ring has
+abbrev pub isNumber : ℕ → Bool
+isNumber s = leb s 4095
 
 -- n steps forward from a
 abbrev pub forward : ℕ → ℕ → ℕ

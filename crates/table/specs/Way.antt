@@ -3,11 +3,11 @@
 use Prim.Native.Nat.{ℕ}
 use mathlib.Core.List.{List, [], _∷_, _++_}
 use mathlib.Core.Bool.{Bool, true, false, _||_}
-use lib.Dec.{leb}
 use Rattle.wire.specs.Refusals.{Refusal, _else_, first, answered}
 use Rattle.wire.specs.Answers.{Said, accepted, refused}
+use Rattle.ring.specs.Ring.{isNumber}
 use Rattle.larq.specs.Channel.{window}
-use Rattle.larq.specs.Table.{Key, Lent, lentEnough}
+use Rattle.larq.specs.Table.{Key, Lent, lentEnough, isPriority}
 use Rattle.table.specs.First.{firstPlace, stores}
 use Rattle.table.specs.Key.{firstWord}
 use Rattle.table.specs.Table.{whole}
@@ -22,7 +22,7 @@ lentOf keys words handles marks up returned nack =
 
 -- the tests of numbers 1 to 3, which are made before the table is looked at
 abbrev pub early : Lent → ℕ → ℕ → List Refusal
-early l number priority = (lentEnough window l else 1) ∷ ((leb number 4095 else 2) ∷ ((leb priority 7 else 3) ∷ []))
+early l number priority = (lentEnough window l else 1) ∷ ((isNumber number else 2) ∷ ((isPriority priority else 3) ∷ []))
 
 -- the number that they lead to, or 0
 unfoldable pub judged : Lent → ℕ → ℕ → ℕ
