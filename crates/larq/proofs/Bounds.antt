@@ -15,7 +15,7 @@ use Rattle.larq.specs.Channel.{Cell, waits, missing, Channel, waiting, h
 use Rattle.larq.specs.Answer.{Answer, holds, Outcome}
 use Rattle.larq.specs.Events.{Act, frame, reminder, tick, close, after, filling, filled, grown, data-on, reminder-on, sideOf, act-on}
 use Rattle.larq.specs.Table.{Event, done, one, numberInRing}
-use Rattle.larq.specs.Demands.{filledOr, enteredData, enteredReminder, Moves, Bounded}
+use Rattle.larq.specs.Moving.{filledOr, enteredData, enteredReminder, Moves, Bounded}
 use Rattle.larq.proofs.Cases.{Passes, one-case}
 use Rattle.larq.proofs.Orderly.{OnSome}
 use Rattle.larq.proofs.Sound.{Good, AllGood, Kept, data-good, reminder-good, act-good}

@@ -11,7 +11,8 @@ use Rattle.larq.specs.Answer.{holds}
 use Rattle.larq.specs.Events.{Act, frame, reminder, tick, close, opened, asked, act-on}
 use Rattle.larq.specs.Table.{Key, sameKey, free, held, Table, Lent, Event, one, outcome, step}
 use Rattle.larq.specs.Run.{run, answers, eventsOf, answersTo, empty}
-use Rattle.larq.specs.Demands.{untilClosed, AgreeButFull, entered, made, Moves, UpFirst, Bounded}
+use Rattle.larq.specs.Demands.{untilClosed, AgreeButFull, UpFirst}
+use Rattle.larq.specs.Moving.{entered, made, Moves, Bounded}
 use Rattle.larq.specs.Counts.{Sent, sent, reminded, strayed, Note, allUp}
 use Rattle.larq.proofs.Untouched.{Untouched, untouched}
 use Rattle.larq.proofs.Apart.{apart}

@@ -15,7 +15,8 @@ use Rattle.larq.specs.Settling.{Walked, walk, wide, stale}
 use Rattle.larq.specs.Answer.{Answer, holds, Outcome, accepted}
 use Rattle.larq.specs.Events.{Act, frame, reminder, tick, close, taken, moved, asked, grown, settledAt, filling, filled, data-on, reminder-on, sideOf, act-on}
 use Rattle.larq.specs.Table.{Event, one, notFar}
-use Rattle.larq.specs.Demands.{restarts, filledOr, enteredData, enteredReminder, entered, aheadBy, made, Moves}
+use Rattle.larq.specs.Demands.{restarts}
+use Rattle.larq.specs.Moving.{filledOr, enteredData, enteredReminder, entered, aheadBy, made, Moves}
 use Rattle.larq.proofs.Cases.{one-case}
 use Rattle.larq.proofs.Walk.{Passed, walk-passes}
 use Rattle.larq.proofs.Sound.{Good}

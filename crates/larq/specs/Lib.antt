@@ -5,6 +5,7 @@ pub mod Events
 pub mod Table
 pub mod Run
 pub mod Demands
+pub mod Moving
 pub mod Counts
 pub mod Calls
 pub mod Edges

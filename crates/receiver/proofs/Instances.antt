@@ -8,7 +8,8 @@ use Rattle.ring.specs.Ring.{rising, side, distance}
 use Rattle.larq.specs.Channel.{waits, missing, Channel, window, sound}
 use Rattle.larq.specs.Events.{frame, asked, act-on}
 use Rattle.larq.specs.Table.{Key, sameKey, channels, Event, one, outcome}
-use Rattle.larq.specs.Demands.{entered, Moves, UpFirst}
+use Rattle.larq.specs.Demands.{UpFirst}
+use Rattle.larq.specs.Moving.{entered, Moves}
 use Rattle.record.specs.Place.{recordWith}
 use Rattle.record.specs.Place as place
 use Rattle.channel.specs.Call.{Buffers, buffers}

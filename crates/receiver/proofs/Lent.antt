@@ -16,7 +16,8 @@ use Rattle.larq.specs.Channel.{Cell, Channel, window, reach, span, sound}
 use Rattle.larq.specs.Answer.{holds, Outcome}
 use Rattle.larq.specs.Events.{Act, frame, reminder, tick, close, filling, filled, data-on, reminder-on, sideOf, act-on}
 use Rattle.larq.specs.Table.{Key, free, held, sameKey, Table, channels, room, Event, one, outcome}
-use Rattle.larq.specs.Demands.{isClose, restarts, entered, made, aheadBy, Moves, UpFirst, Bounded}
+use Rattle.larq.specs.Demands.{isClose, restarts, UpFirst}
+use Rattle.larq.specs.Moving.{entered, made, aheadBy, Moves, Bounded}
 use Rattle.larq.proofs.Cases.{Passes, one-case, accepted-passes}
 use Rattle.larq.proofs.Sound.{Good, Joined, sound-is}
 use Rattle.larq.proofs.Moved.{moves, none-given-up}
