@@ -140,7 +140,7 @@ module _ {H : Type 0} where
         (omega (arith, few-waiting)) (omega arith)
     act-bounded close l = record { up = omega arith; returned = few-waiting; nack = omega arith }
 
--- Any call, refused ones too, where all records of its key are good. On a lent table nothing is asked of them (`lent-bounded` of receiver/proofs/Lent)
+-- Any call, refused ones too, where all records of its key are good. On a lent table nothing is asked of them (`lent-bounded` of table_calls/proofs/Lent)
 pub bounded : {H : Type 0} (w : ℕ) → 2 ≤ w → w < 1024 → (spare : Bool) (cs : List (Channel H)) (e : Event H) → AllGood w cs → Bounded w (one w spare cs e .answer)
 bounded {H} w two half spare cs e g =
     one-case w spare cs e (λ (o : Outcome H). Bounded w (o .answer)) (λ _. record { up = omega arith; returned = omega arith; nack = omega arith }) (λ p. go cs g p)

@@ -51,7 +51,7 @@ sound-is w c e =
     }
 
 -- a record that is not broken, and whose cells reach from M to C. In a lent table every one that is not broken is good (`lent-good` of
--- receiver/proofs/Lent)
+-- table_calls/proofs/Lent)
 pub record Good {H : Type 0} (w : ℕ) (c : Channel H) : Type 0 where
   pub sound : Sound w c
   pub joined : Joined c

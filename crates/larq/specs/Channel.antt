@@ -28,7 +28,7 @@ pub record Channel (H : Type 0) : Type 0 where
   pub cells : List (Cell H)
 
 -- the span: C + 1 - M modulo 4,096. It is the count of the cells in every record that a lent table holds, broken or not (`lent-span` of
--- receiver/proofs/Lent), and in all that runs from the empty table make (`good-span` of proofs/Sound)
+-- table_calls/proofs/Lent), and in all that runs from the empty table make (`good-span` of proofs/Sound)
 abbrev pub span : {H : Type 0} → Channel H → ℕ
 span c = steps (c .oldest) (next (c .current))
 

@@ -1,11 +1,11 @@
-// The four channel events and the look at a channel's record: each goes to `receiver`, and its line tells the answer.
+// The four channel events and the look at a channel's record: each goes to the table, and its line tells the answer.
 use crate::text;
 use crate::text::Line;
-use channel::Answer;
+use place::Answer;
 use ring::Seq;
 use session::Body;
 use session::Key;
-use table::View;
+use table_calls::View;
 
 // The lent table (docs/LAYOUT.md, 'The channel table').
 pub(crate) type Keys = [u64; 128];
@@ -93,7 +93,7 @@ fn data(
     let mut nack = [0u16; 32];
     let to = session::octets(key.destination);
     let from = session::octets(key.source);
-    let answer = receiver::data(
+    let answer = table_frame::data(
         keys,
         words,
         handles,
@@ -131,7 +131,7 @@ fn reminder(
     let mut nack = [0u16; 32];
     let to = session::octets(key.destination);
     let from = session::octets(key.source);
-    let answer = receiver::reminder(
+    let answer = table_upkeep::reminder(
         keys,
         words,
         handles,
@@ -167,7 +167,7 @@ fn tick(
     let mut nack = [0u16; 32];
     let to = session::octets(key.destination);
     let from = session::octets(key.source);
-    let answer = receiver::tick(
+    let answer = table_upkeep::tick(
         keys,
         words,
         handles,
@@ -202,7 +202,7 @@ fn close(
     let mut nack = [0u16; 32];
     let to = session::octets(key.destination);
     let from = session::octets(key.source);
-    let answer = receiver::close(
+    let answer = table_upkeep::close(
         keys,
         words,
         handles,
@@ -264,7 +264,7 @@ fn look(
     let mut values = [0u64; 32];
     let to = session::octets(key.destination);
     let from = session::octets(key.source);
-    let view = table::look(
+    let view = table_calls::look(
         keys,
         words,
         handles,

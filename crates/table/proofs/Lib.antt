@@ -2,11 +2,6 @@ pub mod First
 pub mod Walking
 pub mod Ways
 pub mod Saying
-pub mod Settled
 pub mod Places
 pub mod Parts
 pub mod Stored
-pub mod Zeroing
-pub mod Telling
-pub mod Showing
-pub mod Viewing

@@ -3,5 +3,3 @@ pub mod First
 pub mod Table
 pub mod Way
 pub mod Addressed
-pub mod Emptied
-pub mod Look

@@ -1,22 +1,17 @@
-// The table of 64 places that the host lends: what its slices hold, the place of a key, where an event goes, the empty table, and a look at a
-// channel's record (document 01, 'The channel table').
-mod emptying;
+// The table of 64 places that the host lends: what its slices hold, the place of a key, and where an event goes (document 01, 'The channel table').
 mod key;
-mod looking;
 mod lookup;
 mod way;
 
-pub use emptying::empty;
 pub use key::address;
 pub use key::first_word;
-pub use looking::View;
-pub use looking::look;
 pub use lookup::Found;
 pub use record::SLOTS;
 pub use record::WORDS;
 pub use way::DataWay;
 pub use way::Way;
 pub use way::data_way_of;
+pub use way::is_whole;
 pub use way::way_of;
 
 // The layout of the lent table: its places, and how many words of the keys belong to one of them. What else belongs to a place is record's.

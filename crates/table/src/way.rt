@@ -35,7 +35,7 @@ pub enum DataWay {
 }
 
 // Whether the slices are those of a table of 64 places.
-pub(crate) fn is_whole(keys: usize, words: usize, handles: usize, marks: usize) -> bool
+pub fn is_whole(keys: usize, words: usize, handles: usize, marks: usize) -> bool
     ensures { λ r. ⌜ r ≡ whole keys words handles marks ⌝ }
 {
     (keys == KEYS_IN_ALL)

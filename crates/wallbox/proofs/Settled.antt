@@ -1,5 +1,5 @@
 -- Any two outcomes that a contract of this crate allows are equal. The structs of a rate request stand for what the library answers, and no two of them for the
--- same. The four events are settled by `unique` of receiver, an emptied table and a look by table's lemmas, and the other contracts are equations.
+-- same. The four events are settled by `unique` of table_calls, an emptied table and a look by its lemmas too, and the other contracts are equations.
 -- Assumes nothing.
 use Prim.Native.Nat.{ℕ}
 use mathlib.Core.Path.{_≡_, refl, sym, ap, _∙_}

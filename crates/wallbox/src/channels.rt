@@ -1,14 +1,14 @@
 // The channel events on the table that the host lends, the empty table, and a look at a channel's record (document 01, 'The channel table'
 // and 'The four channel events'). Slices and addresses are passed on as they come.
 ghost use Rattle.larq.specs.Events.{frame, reminder, tick, close};
-ghost use Rattle.channel.specs.Call.{buffers};
-ghost use Rattle.table.specs.Emptied.{Emptied};
+ghost use Rattle.place.specs.Call.{buffers};
+ghost use Rattle.table_calls.specs.Emptied.{Emptied};
 ghost use Rattle.table.specs.Key.{keyOf};
-ghost use Rattle.table.specs.Look.{shownOf, lentFor, Looked};
+ghost use Rattle.table_calls.specs.Look.{shownOf, lentFor, Looked};
 ghost use Rattle.table.specs.Table.{slices, tableOf};
-ghost use Rattle.arrivals.specs.Event.{Call};
-use channel::Answer;
-use table::View;
+ghost use Rattle.table_calls.specs.Event.{Call};
+use place::Answer;
+use table_calls::View;
 
 #[no_mangle]
 pub extern "C" fn pik_empty(
@@ -21,7 +21,7 @@ pub extern "C" fn pik_empty(
         (slices (now (keys .entry)) (now (words .entry)) (now (handles .entry)) (now (marks .entry)))
         (slices (now (keys .exit)) (now (words .exit)) (now (handles .exit)) (now (marks .exit))) r ⌝ }
 {
-    table::empty(keys, words, handles, marks)
+    table_calls::empty(keys, words, handles, marks)
 }
 
 #[no_mangle]
@@ -46,7 +46,7 @@ pub extern "C" fn pik_data(
         (buffers (now (up .entry)) (now (returned .entry)) (now (nack .entry)))
         (buffers (now (up .exit)) (now (returned .exit)) (now (nack .exit))) r ⌝ }
 {
-    receiver::data(
+    table_frame::data(
         keys,
         words,
         handles,
@@ -84,7 +84,7 @@ pub extern "C" fn pik_reminder(
         (buffers (now (up .entry)) (now (returned .entry)) (now (nack .entry)))
         (buffers (now (up .exit)) (now (returned .exit)) (now (nack .exit))) r ⌝ }
 {
-    receiver::reminder(
+    table_upkeep::reminder(
         keys,
         words,
         handles,
@@ -120,7 +120,7 @@ pub extern "C" fn pik_tick(
         (buffers (now (up .entry)) (now (returned .entry)) (now (nack .entry)))
         (buffers (now (up .exit)) (now (returned .exit)) (now (nack .exit))) r ⌝ }
 {
-    receiver::tick(
+    table_upkeep::tick(
         keys,
         words,
         handles,
@@ -155,7 +155,7 @@ pub extern "C" fn pik_close(
         (buffers (now (up .entry)) (now (returned .entry)) (now (nack .entry)))
         (buffers (now (up .exit)) (now (returned .exit)) (now (nack .exit))) r ⌝ }
 {
-    receiver::close(
+    table_upkeep::close(
         keys,
         words,
         handles,
@@ -188,7 +188,7 @@ pub extern "C" fn pik_look(
         (tableOf (slices (now (keys .entry)) (now (words .entry)) (now (handles .entry)) (now (marks .entry)))))
         (now (waits .entry)) (now (waits .exit)) (now (values .entry)) (now (values .exit)) r ⌝ }
 {
-    table::look(
+    table_calls::look(
         keys,
         words,
         handles,

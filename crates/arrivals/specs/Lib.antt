@@ -1,3 +1,0 @@
-pub mod Event
-pub mod Writes
-pub mod Calls

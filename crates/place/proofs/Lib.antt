@@ -1,0 +1,9 @@
+pub mod Asking
+pub mod Cells
+pub mod Places
+pub mod Growing
+pub mod StepAhead
+pub mod Restarting
+pub mod Opening
+pub mod Calling
+pub mod OneOutcome

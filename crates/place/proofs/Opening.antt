@@ -1,0 +1,131 @@
+-- What an event that no number of the common ones refuses may rely on: lengths, a number in the ring and a sound record, as the functions
+-- that act ask for them. Assumes nothing.
+use Prim.Native.Nat.{ℕ, _-_, _%_, _≤_, _<_}
+use mathlib.Core.Path.{_≡_, refl, ap, ap₂, sym, _∙_, subst}
+use mathlib.Core.Bool.{Bool, true, false, false≢true}
+use mathlib.Core.List.{List, [], _∷_}
+use native.Mathlib.Omega.{arith}
+use lib.Dec.{eqb, leb}
+use lib.ListN.{length, getD}
+use borrow.Author.Tests.{leb-true, eqb-true, eqb-false}
+use Rattle.wire.specs.Refusals.{first, _else_}
+use Rattle.ring.specs.Ring.{next, steps, seen, Ahead}
+use Rattle.ring.proofs.Sides.{Seen, sees}
+use Rattle.larq.specs.Channel as channel
+use Rattle.larq.specs.Channel.{headMissing, sound, reach, waits}
+use Rattle.larq.specs.Table.{lentEnough, notBefore}
+use Rattle.record.specs.Place.{window, cellAt, spanOf, recordOf}
+use Rattle.place.specs.Call.{Parts, Buffers}
+use Rattle.record.specs.Moving.{recordIn, spanIn}
+use Rattle.place.specs.Steps.{Ready, lentAt, testsAt, IsAhead, Waits, Missing}
+use Rattle.judging.specs.Judge.{Judges, RefusedBy, OpenAt, inRing, inShape}
+use Rattle.record.specs.declared.Record.{Record}
+use Rattle.judging.specs.declared.Judged.{Judged}
+use Rattle.judging.specs.declared.Judged.the-variants.{Refused, Open}
+use Rattle.record.proofs.Windows.{length-window, window-suc, cell-waits}
+use Rattle.wire.proofs.Joined.{and-left, and-right}
+use Rattle.judging.proofs.Sounds.{ring-of, sound-is}
+use Rattle.record.proofs.Sizes.{Enough, enough-of}
+
+-- no number of the four is given: all four tests pass
+all-pass : (a b c d : Bool) → first ((a else 1) ∷ ((b else 2) ∷ ((c else 6) ∷ ((d else 7) ∷ [])))) ≡ 0
+    → (a ≡ true) × (b ≡ true) × (c ≡ true) × (d ≡ true)
+all-pass true true true true e = (refl, refl, refl, refl)
+all-pass false b c d e = absurd (let z : ⊥ = omega arith in z)
+all-pass true false c d e = absurd (let z : ⊥ = omega arith in z)
+all-pass true true false d e = absurd (let z : ⊥ = omega arith in z)
+all-pass true true true false e = absurd (let z : ⊥ = omega arith in z)
+
+-- a window whose first number does not wait
+head-of : (w k : List ℕ) (m n : ℕ) → headMissing (window (cellAt w [] k) m n) ≡ true → 0 < n → getD k (m % 32) 0 ≡ 0
+head-of w k m n e p = by-mark (eqb (getD k (m % 32) 0) 0) refl
+  where
+    by-mark : (b : Bool) → eqb (getD k (m % 32) 0) 0 ≡ b → getD k (m % 32) 0 ≡ 0
+    by-mark true f = eqb-true (getD k (m % 32) 0) 0 f
+    by-mark false f =
+        let first : window (cellAt w [] k) m n ≡ waits (getD [] (m % 32) 0) ∷ window (cellAt w [] k) (next m) (n - 1) =
+        window-suc (cellAt w [] k) m n p ∙ rw (cell-waits w [] k (m % 32) (eqb-false (getD k (m % 32) 0) 0 f)) in
+        absurd (false≢true (sym (ap headMissing first) ∙ e))
+
+-- What was decided of a call with these parts and buffers, this number and this time.
+pub record Stopped (p : Parts) (b : Buffers) (s time number : ℕ) : Type 0 where
+  pub by : RefusedBy (testsAt p b s time) number
+
+pub record Opened (p : Parts) (b : Buffers) (s time : ℕ) (r : Record) : Type 0 where
+  pub at : OpenAt (testsAt p b s time) (p .words) r
+
+module _ (p : Parts) (b : Buffers) (s time : ℕ) {j : Judged} (judges : Judges (lentAt p b) (p .words) (p .marks) s time j) where
+  pub stopped-by : {number : ℕ} → j ≡ Refused number → Stopped p b s time number
+  stopped-by e = record { by = subst (Judges (lentAt p b) (p .words) (p .marks) s time) e judges }
+
+  pub opened-by : {r : Record} → j ≡ Open r → Opened p b s time r
+  opened-by e = record { at = subst (Judges (lentAt p b) (p .words) (p .marks) s time) e judges }
+
+module _ {p : Parts} {b : Buffers} {s time : ℕ} {r : Record} (opened : Opened p b s time r) where
+  abbrev W : List ℕ
+  W = p .words
+
+  abbrev K : List ℕ
+  K = p .marks
+
+  pub passes : (lentEnough channel.window (lentAt p b) ≡ true) × (leb s 4095 ≡ true) × (sound channel.window (recordOf W [] K) ≡ true)
+      × (notBefore time (recordOf W [] K) ≡ true)
+  passes = all-pass _ _ _ _ (opened .at .none)
+
+  pub enough : Enough (length W) (length (p .handles)) (length K) (length (b .up)) (length (b .returned)) (length (b .nack))
+  enough = enough-of (length W) (length (p .handles)) (length K) (length (b .up)) (length (b .returned)) (length (b .nack)) (passes .0)
+
+  pub in-ring : s < 4096
+  in-ring = omega (arith, leb-true s 4095 (passes .1))
+
+  in-shape : (inRing W ≡ true) × (inShape (getD W 0 0) (getD W 1 0) W K ≡ true)
+  in-shape = let e = sym (sound-is W K) ∙ passes .2 in (and-left (inRing W) _ e, and-right (inRing W) _ e)
+
+  held : recordIn r W (p .handles) K ≡ recordOf W (p .handles) K
+  held = rw (opened .at .current, opened .at .oldest, opened .at .latest)
+
+  pub ready : Ready r W (p .handles) K
+  ready =
+      let ring = ring-of W K (in-shape .0) in
+      let n = spanOf (getD W 0 0) (getD W 1 0) in
+      let span : spanIn r ≡ n = ap₂ spanOf (opened .at .current) (opened .at .oldest) in
+      let cells = window (cellAt W [] K) (getD W 1 0) n in
+      let fits : length cells ≤ 32 = leb-true (length cells) 32 (and-left (leb (length cells) 32) _ (in-shape .1)) in
+      let rest = and-right (leb (length cells) 32) _ (in-shape .1) in
+      record {
+        sized = record { words = enough .words-sized; handles = enough .handles-sized; marks = enough .marks-sized };
+        held = held;
+        current = rw (opened .at .current) (ring .0);
+        oldest = rw (opened .at .oldest) (ring .1);
+        narrow = omega (arith, span, length-window (cellAt W [] K) (getD W 1 0) n);
+        head = λ q.
+            ap (λ x. getD K (x % 32) 0) (opened .at .oldest)
+            ∙ head-of W K (getD W 1 0) n (and-left (headMissing cells) _ rest) (rw span at q);
+      }
+
+-- s lies ahead: of so many numbers the last comes with a frame, or is missing with the others
+module _ (c s d : ℕ) (is : seen (reach channel.window) c s ≡ Ahead d) where
+  ahead-of : Seen 64 c s (Ahead d)
+  ahead-of = subst (Seen 64 c s) is (sees 64 c s (omega arith))
+
+  pub ahead-some : 0 < d
+  ahead-some = ahead-of .some
+
+  pub ahead-frame : (x : ℕ) → IsAhead c s (d - 1) (Waits x)
+  ahead-frame x =
+      record {
+        some = omega (arith, ahead-of .is, ahead-of .some);
+        near = omega (arith, ahead-of .is, ahead-of .near);
+        all = omega (arith, ahead-of .is, ahead-of .some);
+      }
+
+  pub ahead-reminder : IsAhead c s d Missing
+  ahead-reminder =
+      record {
+        some = omega (arith, ahead-of .is, ahead-of .some);
+        near = omega (arith, ahead-of .is, ahead-of .near);
+        all = omega (arith, ahead-of .is);
+      }
+
+pub ahead-by-one : (c s : ℕ) → seen (reach channel.window) c s ≡ Ahead 1 → steps c s ≡ 1
+ahead-by-one c s is = ahead-of c s 1 is .is

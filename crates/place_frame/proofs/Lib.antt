@@ -1,0 +1,4 @@
+pub mod Filling
+pub mod StepBehind
+pub mod Fronts
+pub mod Frames

@@ -1,0 +1,230 @@
+-- `arrive` meets its contract: by where the number lies (Frames).
+use Prim.Native.Nat.{ℕ}
+use mathlib.Core.Path.{_≡_, subst}
+use native.Mathlib.Omega.{arith}
+use Rattle.ring.specs.Ring.{seen, Ahead}
+use Rattle.larq.specs.Channel.{window, reach}
+use Rattle.judging.specs.Judge.{LiesAt}
+use Rattle.judging.specs.declared.Spot.{Spot}
+use Rattle.judging.specs.declared.Spot.the-variants.{Next, Missing, Known, Far}
+use Rattle.place.proofs.Opening.{ahead-some, ahead-frame}
+use Rattle.place_frame.proofs.Frames.{frame-next, frame-ahead, frame-missing, frame-known, frame-far}
+use borrow.Author.Needs.{needs}
+use Rattle.place_frame.proofs.arrive.Statement.{statement}
+use Rattle.place_frame.proofs.arrive.Tie as tie
+use Rattle.place_frame.proofs.arrive.Reads as reads
+use Rattle.place_frame.proofs.arrive.Lts as lts
+use Rattle.place_frame.proofs.act.ahead.Reads as ahead-reads
+use Rattle.place_frame.proofs.act.filled.Reads as filled-reads
+use Rattle.place_frame.proofs.act.handed_up.Reads as handed-up-reads
+use Rattle.place_frame.proofs.act.restarted.Reads as restarted-reads
+use Rattle.place_frame.proofs.act.sent_back.Reads as sent-back-reads
+use Rattle.judging.proofs.spot_of.Reads as spot-of-reads
+
+-- from where the number was looked up back to the entry
+abbrev at-entry : tie.After-spot-of → tie.Start
+at-entry c = c .before .before .before .before .before .before .before .before
+
+lies : (c : tie.After-spot-of) (x : Spot) → c .spot-of .result ≡ x
+    → LiesAt (at-entry c .args .r) (at-entry c .args .marks .now) (at-entry c .args .s .0) x
+lies c x e = subst (LiesAt (at-entry c .args .r) (at-entry c .args .marks .now) (at-entry c .args .s .0)) e (c .spot-of .ensures)
+
+ahead-by : (c : tie.After-spot-of) (d : ℕ) → c .spot-of .result ≡ Spot.Ahead d
+    → seen (reach window) (at-entry c .args .r .current .0) (at-entry c .args .s .0) ≡ Ahead d
+ahead-by c d e = lies c (Spot.Ahead d) e .is
+
+spot-of-requires : tie.Need-spot-of-requires
+spot-of-requires c κs = search needs
+
+enum-known-d : tie.Need-enum-known-d
+enum-known-d c = search needs
+
+sub-ahead : tie.Need-sub-ahead
+sub-ahead c =
+    let l = c .before .before .before .before .before .before .before .before in
+    let a = at-entry l .args in
+    ahead-some (a .r .current .0) (a .s .0) _ (ahead-by l _ (c .before .before .before .before .before .before .d .given .1))
+
+ahead-requires : tie.Need-ahead-requires
+ahead-requires c κs =
+    let l = c .before .before .before .before .before .before .before .before in
+    let a = at-entry l .args in
+    let p = at-entry l .pre in
+    (p .0, ((p .1 .0, p .1 .2), ahead-frame (a .r .current .0) (a .s .0) _ (ahead-by l _ (c .before .before .before .before .before .before .d .given .1)) (a .handle)))
+
+accepted-requires : tie.Need-accepted-requires
+accepted-requires c κs = search needs
+
+enum-told : tie.Need-enum-told
+enum-told c = search needs
+
+handed-up-requires : tie.Need-handed-up-requires
+handed-up-requires c κs = search needs
+
+enum-told-2 : tie.Need-enum-told-2
+enum-told-2 c = search needs
+
+filled-requires : tie.Need-filled-requires
+filled-requires c κs =
+    let l = c .before .before .before .before .before .before in
+    let p = at-entry l .pre in
+    ((p .0 .0, lies l Missing (c .before .before .before .before .enum-told2 .given .1)), p .1 .0)
+
+accepted-requires-2 : tie.Need-accepted-requires-2
+accepted-requires-2 c κs = search needs
+
+enum-told-3 : tie.Need-enum-told-3
+enum-told-3 c = search needs
+
+sent-back-requires : tie.Need-sent-back-requires
+sent-back-requires c κs = search needs
+
+enum-told-4 : tie.Need-enum-told-4
+enum-told-4 c = search needs
+
+restarted-requires : tie.Need-restarted-requires
+restarted-requires c κs = search needs
+
+same-length : tie.Need-same-length
+same-length c = search needs
+
+same-length-2 : tie.Need-same-length-2
+same-length-2 c = search needs
+
+same-length-3 : tie.Need-same-length-3
+same-length-3 c = search needs
+
+same-length-4 : tie.Need-same-length-4
+same-length-4 c = search needs
+
+same-length-5 : tie.Need-same-length-5
+same-length-5 c = search needs
+
+returns : tie.Need-returns
+returns c =
+    let l = c .before .before .before .before .before .before .before .before .before .before .before .before .before .before .before .before .before .before .before .before in
+    let a = at-entry l .args in
+    let p = at-entry l .pre in
+    frame-ahead (a .s .0) (a .handle) (a .time) (p .0 .0) (a .returned .now) (ahead-by l _ (c .before .before .before .before .before .before .before .before .before .before .before .before .before .before .before .before .before .before .d .given .1)) (c .before .before .before .before .before .before .before .before .before .before .before .ahead .ensures) (c .accepted .ensures)
+
+same-length-6 : tie.Need-same-length-6
+same-length-6 c = search needs
+
+same-length-7 : tie.Need-same-length-7
+same-length-7 c = search needs
+
+same-length-8 : tie.Need-same-length-8
+same-length-8 c = search needs
+
+returns-2 : tie.Need-returns-2
+returns-2 c =
+    let l = c .before .before .before .before .before .before .before .before .before in
+    let a = at-entry l .args in
+    let p = at-entry l .pre in
+    let e = c .before .before .before .before .handed-up .ensures in
+    frame-next (a .s .0) (a .handle) (a .time) (p .0 .0) (a .up .now) (a .returned .now) (a .nack .now) (p .0 .1) (lies l Next (c .before .before .before .before .before .before .before .enum-told .given .1))
+    (omega (arith, p .1 .0)) (e .0) (e .1) (e .2)
+
+same-length-9 : tie.Need-same-length-9
+same-length-9 c = search needs
+
+same-length-10 : tie.Need-same-length-10
+same-length-10 c = search needs
+
+same-length-11 : tie.Need-same-length-11
+same-length-11 c = search needs
+
+same-length-12 : tie.Need-same-length-12
+same-length-12 c = search needs
+
+returns-3 : tie.Need-returns-3
+returns-3 c =
+    let l = c .before .before .before .before .before .before .before .before .before .before .before .before .before .before .before .before in
+    let a = at-entry l .args in
+    let p = at-entry l .pre in
+    frame-missing (a .s .0) (a .handle) (a .time) (p .0 .0) (a .returned .now) (a .nack .now) (lies l Missing (c .before .before .before .before .before .before .before .before .before .before .before .before .before .before .enum-told2 .given .1))
+    (c .before .before .before .before .before .before .before .before .before .filled .ensures) (c .accepted2 .ensures)
+
+same-length-13 : tie.Need-same-length-13
+same-length-13 c = search needs
+
+same-length-14 : tie.Need-same-length-14
+same-length-14 c = search needs
+
+same-length-15 : tie.Need-same-length-15
+same-length-15 c = search needs
+
+returns-4 : tie.Need-returns-4
+returns-4 c =
+    let l = c .before .before .before .before .before .before .before .before .before in
+    let a = at-entry l .args in
+    let p = at-entry l .pre in
+    let e = c .before .before .before .before .sent-back .ensures in
+    frame-known (a .s .0) (a .handle) (a .time) (p .0 .0) (a .up .now) (a .returned .now) (a .nack .now) (lies l Known (c .before .before .before .before .before .before .before .enum-told3 .given .1))
+    (omega (arith, p .1 .1)) (e .0) (e .1) (e .2)
+
+same-length-16 : tie.Need-same-length-16
+same-length-16 c = search needs
+
+same-length-17 : tie.Need-same-length-17
+same-length-17 c = search needs
+
+same-length-18 : tie.Need-same-length-18
+same-length-18 c = search needs
+
+same-length-19 : tie.Need-same-length-19
+same-length-19 c = search needs
+
+same-length-20 : tie.Need-same-length-20
+same-length-20 c = search needs
+
+returns-5 : tie.Need-returns-5
+returns-5 c =
+    let l = c .before .before .before .before .before .before .before .before .before .before .before .before .before .before in
+    let a = at-entry l .args in
+    let p = at-entry l .pre in
+    frame-far (a .s .0) (a .handle) (a .time) (p .0 .0) (a .nack .now) (lies l Far (c .before .before .before .before .before .before .before .before .before .before .before .before .enum-told4 .given .1)) (c .before .before .before .before .before .before .restarted .ensures)
+
+pub arrive-spec : {M : Type 1} → statement M
+arrive-spec =
+    tie.close
+    (tie.spec
+    spot-of-requires
+    enum-known-d
+    sub-ahead
+    ahead-requires
+    accepted-requires
+    enum-told
+    handed-up-requires
+    enum-told-2
+    filled-requires
+    accepted-requires-2
+    enum-told-3
+    sent-back-requires
+    enum-told-4
+    restarted-requires
+    same-length
+    same-length-2
+    same-length-3
+    same-length-4
+    same-length-5
+    returns
+    same-length-6
+    same-length-7
+    same-length-8
+    returns-2
+    same-length-9
+    same-length-10
+    same-length-11
+    same-length-12
+    returns-3
+    same-length-13
+    same-length-14
+    same-length-15
+    returns-4
+    same-length-16
+    same-length-17
+    same-length-18
+    same-length-19
+    same-length-20
+    returns-5)

@@ -1,0 +1,43 @@
+-- `ticked` meets its contract: what `settle` leaves is handed to the law of a tick (Ticking).
+use Rattle.place_upkeep.proofs.Ticking.{ticked-did}
+use borrow.Author.Needs.{needs}
+use Rattle.place_upkeep.proofs.act.ticked.Statement.{statement}
+use Rattle.place_upkeep.proofs.act.ticked.Tie as tie
+use Rattle.place_upkeep.proofs.act.ticked.Reads as reads
+use Rattle.place_upkeep.proofs.act.ticked.Lts as lts
+use Rattle.record.proofs.Record.arrived.Reads as arrived-reads
+use Rattle.record.proofs.Record.settle.Reads as settle-reads
+use Rattle.place_upkeep.proofs.act.stale_before.Reads as stale-before-reads
+
+arrived-requires : tie.Need-arrived-requires
+arrived-requires c κs = search needs
+
+stale-before-requires : tie.Need-stale-before-requires
+stale-before-requires c κs = search needs
+
+settle-requires : tie.Need-settle-requires
+settle-requires c κs = search needs
+
+same-length : tie.Need-same-length
+same-length c = search needs
+
+same-length-2 : tie.Need-same-length-2
+same-length-2 c = search needs
+
+returns : tie.Need-returns
+returns c =
+    let a = c .before .before .before .before .before .before .before .before .arrived .ensures in
+    let e = c .before .before .before .before .before .before .before .before .before .before .before .before .before in
+    let s = c .before .before .before .before .settle .ensures in
+    ticked-did (e .pre .0) (e .args .time) (c .before .before .before .before .before .stale-before .ensures) (a .0) (a .1) (a .2) (e .pre .1) (s .0) (s .1)
+
+pub ticked-spec : {M : Type 1} → statement M
+ticked-spec =
+    tie.close
+    (tie.spec
+    arrived-requires
+    stale-before-requires
+    settle-requires
+    same-length
+    same-length-2
+    returns)

@@ -1,0 +1,68 @@
+-- `told` meets its contract: what `widened` and `settle` leave is handed to the laws of the step ahead (StepAhead of channel).
+use Prim.Native.Nat.{ℕ, _≤_, _<_}
+use mathlib.Core.Path.{refl}
+use native.Mathlib.Omega.{arith}
+use Rattle.place.proofs.Places.{finished}
+use Rattle.place.proofs.StepAhead.{stepped, widened-sized, settle-room, gone-few, ahead-did}
+use borrow.Author.Needs.{needs}
+use Rattle.place_upkeep.proofs.act.told.Statement.{statement}
+use Rattle.place_upkeep.proofs.act.told.Tie as tie
+use Rattle.place_upkeep.proofs.act.told.Reads as reads
+use Rattle.place_upkeep.proofs.act.told.Lts as lts
+use Rattle.record.proofs.Record.settle.Reads as settle-reads
+use Rattle.stepping.proofs.widened.Reads as widened-reads
+
+-- from where C has come to s back to the entry
+abbrev at-entry : tie.After-widened → tie.Start
+at-entry c = c .before .before .before .before .before .before .before .before .before .before
+
+window-fits : {n : ℕ} → n ≤ 32 → n < 18446744073709551616
+window-fits l = omega arith
+
+widened-requires : tie.Need-widened-requires
+widened-requires c κs = search needs
+
+settle-requires : tie.Need-settle-requires
+settle-requires c κs = search needs
+
+add-t29 : tie.Need-add-t29
+add-t29 c =
+    let w = c .before .before .before .before .before .before .before .before .before .before .before .before .before .before .before .before .before .before .before .before .before in
+    let p = at-entry w .pre in
+    let wide = stepped (p .0 .0) (p .1 .1) (p .1 .0 .0) (p .1 .0 .1) (w .widened .ensures) in
+    let sized = widened-sized (p .0 .0) (p .0 .1) (p .1 .1) (p .1 .0 .0) (p .1 .0 .1) wide in
+    record { fits = window-fits (gone-few (p .0 .0) (p .0 .1) (p .1 .1) (p .1 .0 .0) (p .1 .0 .1) wide refl refl (c .before .before .before .before .before .before .settle .ensures .0) sized) }
+
+same-length : tie.Need-same-length
+same-length c = search needs
+
+same-length-2 : tie.Need-same-length-2
+same-length-2 c = search needs
+
+same-length-3 : tie.Need-same-length-3
+same-length-3 c = search needs
+
+same-length-4 : tie.Need-same-length-4
+same-length-4 c = search needs
+
+returns : tie.Need-returns
+returns c =
+    let w = c .before .before .before .before .before .before .before .before .before .before .before .before .before .before .before .before .before .before .before .before .before in
+    let p = at-entry w .pre in
+    let e = c .before .before .before .before .before .before .settle .ensures in
+    let wide = stepped (p .0 .0) (p .1 .1) (p .1 .0 .0) (p .1 .0 .1) (w .widened .ensures) in
+    ahead-did (p .0 .0) (p .0 .1) (p .1 .1) (p .1 .0 .0) (p .1 .0 .1) wide refl refl
+    (finished (widened-sized (p .0 .0) (p .0 .1) (p .1 .1) (p .1 .0 .0) (p .1 .0 .1) wide) (settle-room (p .0 .0) (p .0 .1) (p .1 .1) (p .1 .0 .0) (p .1 .0 .1) wide refl refl) (e .0) (e .1))
+
+pub told-spec : {M : Type 1} → statement M
+told-spec =
+    tie.close
+    (tie.spec
+    widened-requires
+    settle-requires
+    add-t29
+    same-length
+    same-length-2
+    same-length-3
+    same-length-4
+    returns)

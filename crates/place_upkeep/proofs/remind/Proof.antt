@@ -1,0 +1,120 @@
+-- `remind` meets its contract: by the side on which the number lies (Reminders).
+use mathlib.Core.Path.{_≡_, ap, sym, _∙_}
+use borrow.Author.Tests.{not-true, not-false}
+use Rattle.ring.specs.Ring.{seen, Ahead}
+use Rattle.ring.proofs.Sides.{seen-far, seen-ahead, seen-behind}
+use Rattle.place.proofs.Opening.{ahead-reminder}
+use Rattle.place_upkeep.proofs.Reminders.{reminder-ahead, reminder-behind, reminder-far}
+use borrow.Author.Needs.{needs}
+use Rattle.place_upkeep.proofs.remind.Statement.{statement}
+use Rattle.place_upkeep.proofs.remind.Tie as tie
+use Rattle.place_upkeep.proofs.remind.Reads as reads
+use Rattle.place_upkeep.proofs.remind.Lts as lts
+use Rattle.place.proofs.accepted.Reads as accepted-reads
+use Rattle.place.proofs.refused.Reads as refused-reads
+use Rattle.ring.proofs.Distance.is_ahead.Reads as is-ahead-reads
+use Rattle.ring.proofs.Distance.is_far.Reads as is-far-reads
+use Rattle.ring.proofs.Seq.distance.Reads as distance-reads
+use Rattle.ring.proofs.Seq.steps.Reads as steps-reads
+use Rattle.place_upkeep.proofs.act.noted.Reads as noted-reads
+use Rattle.place_upkeep.proofs.act.told.Reads as told-reads
+
+abbrev at-entry : tie.After-steps → tie.Start
+at-entry c = c .before .before .before .before .before .before .before .before .before .before .before .before .before .before .before .before .before
+
+-- the number lies ahead, by the steps that were counted
+ahead-by : (c : tie.After-steps) → seen 64 (at-entry c .args .r .current .0) (at-entry c .args .s .0) ≡ Ahead (c .steps .result)
+ahead-by c =
+    seen-ahead (at-entry c .args .r .current .0) (at-entry c .args .s .0) (rw (c .before .before .before .before .before .before .before .is-ahead .ensures, c .before .before .before .before .before .before .before .before .before .before .distance .ensures) at (not-false (c .before .before .before .before .before .before .before .is-ahead .result) (c .before .before .before .before .before .before .if2 .left)))
+    ∙ ap Ahead (sym (c .steps .ensures))
+
+distance-requires : tie.Need-distance-requires
+distance-requires c κs = search needs
+
+is-far-requires : tie.Need-is-far-requires
+is-far-requires c κs = search needs
+
+refused-requires : tie.Need-refused-requires
+refused-requires c κs = search needs
+
+returns : tie.Need-returns
+returns c =
+    let e = c .before .before .before .before .before .before .before .before .before .before in
+    let a = e .args in
+    reminder-far (e .pre .0 .0) (a .time) (a .s .0) (a .up .now) (a .nack .now)
+    (seen-far _ _ (rw (c .before .before .is-far .ensures, c .before .before .before .distance .ensures) at (c .before .if1 .taken))) (c .refused .ensures)
+
+is-ahead-requires : tie.Need-is-ahead-requires
+is-ahead-requires c κs = search needs
+
+noted-requires : tie.Need-noted-requires
+noted-requires c κs = search needs
+
+same-length : tie.Need-same-length
+same-length c = search needs
+
+returns-2 : tie.Need-returns-2
+returns-2 c =
+    let f = c .before .before .before .before .before .before in
+    let e = f .before .before .before .before .before .before .before .before .before in
+    let a = e .args in
+    let n = c .before .before .noted .ensures in
+    reminder-behind (e .pre .0 .0) (a .time) (a .s .0) (a .up .now) (a .nack .now)
+    (seen-behind (a .r .current .0) (a .s .0) (rw (f .before .is-far .ensures, f .before .before .distance .ensures) at (f .if1 .left))
+    (rw (c .before .before .before .before .before .is-ahead .ensures, f .before .before .distance .ensures) at (not-true (c .before .before .before .before .before .is-ahead .result) (c .before .before .before .before .if2 .taken))) .1)
+    (n .0) (n .1)
+
+steps-requires : tie.Need-steps-requires
+steps-requires c κs = search needs
+
+told-requires : tie.Need-told-requires
+told-requires c κs =
+    let e = c .before .before .before .before .before .before .before .before .before .before .before .before .before .before .before .before .before in
+    let a = e .args in
+    (e .pre .0, (e .pre .1, ahead-reminder (a .r .current .0) (a .s .0) _ (ahead-by c)))
+
+accepted-requires : tie.Need-accepted-requires
+accepted-requires c κs = search needs
+
+same-length-2 : tie.Need-same-length-2
+same-length-2 c = search needs
+
+same-length-3 : tie.Need-same-length-3
+same-length-3 c = search needs
+
+same-length-4 : tie.Need-same-length-4
+same-length-4 c = search needs
+
+same-length-5 : tie.Need-same-length-5
+same-length-5 c = search needs
+
+same-length-6 : tie.Need-same-length-6
+same-length-6 c = search needs
+
+returns-3 : tie.Need-returns-3
+returns-3 c =
+    let e = c .before .before .before .before .before .before .before .before .before .before .before .before .before .before .before .before .before .before .before .before .before .before .before .before .before .before .before in
+    let a = e .args in
+    reminder-ahead (e .pre .0 .0) (a .time) (a .s .0) (ahead-by (c .before .before .before .before .before .before .before .before .before .before)) (c .before .before .before .before .before .before .before .before .before .told .ensures) (c .accepted .ensures)
+
+pub remind-spec : {M : Type 1} → statement M
+remind-spec =
+    tie.close
+    (tie.spec
+    distance-requires
+    is-far-requires
+    refused-requires
+    returns
+    is-ahead-requires
+    noted-requires
+    same-length
+    returns-2
+    steps-requires
+    told-requires
+    accepted-requires
+    same-length-2
+    same-length-3
+    same-length-4
+    same-length-5
+    same-length-6
+    returns-3)

@@ -1,0 +1,92 @@
+-- `reminder` meets its contract: a common number refuses it (Calling), or it comes to an open record (Reminders).
+use mathlib.Core.Path.{refl}
+use Rattle.larq.specs.Events.{reminder}
+use Rattle.place.specs.Call.{Parts, Buffers, parts, buffers}
+use Rattle.place.proofs.Opening.{stopped-by, opened-by, enough, in-ring, ready}
+use Rattle.place.proofs.Calling.{called-stopped}
+use Rattle.place_upkeep.proofs.Reminders.{called-reminder}
+use borrow.Author.Needs.{needs}
+use Rattle.place_upkeep.proofs.reminder.Statement.{statement}
+use Rattle.place_upkeep.proofs.reminder.Tie as tie
+use Rattle.place_upkeep.proofs.reminder.Reads as reads
+use Rattle.place_upkeep.proofs.reminder.Lts as lts
+use Rattle.judging.proofs.judge.Reads as judge-reads
+use Rattle.place.proofs.refused.Reads as refused-reads
+use Rattle.place_upkeep.proofs.remind.Reads as remind-reads
+
+-- what the call was lent
+abbrev lent : tie.Start → Parts
+lent c = parts (c .args .words .now) (c .args .handles .now) (c .args .marks .now)
+
+abbrev lends : tie.Start → Buffers
+lends c = buffers (c .args .up .now) (c .args .returned .now) (c .args .nack .now)
+
+judge-requires : tie.Need-judge-requires
+judge-requires c κs = search needs
+
+enum-known-n : tie.Need-enum-known-n
+enum-known-n c = search needs
+
+refused-requires : tie.Need-refused-requires
+refused-requires c κs = search needs
+
+enum-known-r : tie.Need-enum-known-r
+enum-known-r c = search needs
+
+remind-requires : tie.Need-remind-requires
+remind-requires c κs =
+    let e = c .before .before .before .before .before .before .before .before .before .before .before .before .before .before .before .before .before in
+    let opened = opened-by (lent e) (lends e) (e .args .number) (e .args .time) (c .before .before .before .before .before .before .before .before .judge .ensures) (c .before .before .before .before .before .before .r .given .1) in
+    let room = enough opened in
+    ((ready opened, in-ring opened), (room .up-room, room .nack-room))
+
+same-length : tie.Need-same-length
+same-length c = search needs
+
+same-length-2 : tie.Need-same-length-2
+same-length-2 c = search needs
+
+returns : tie.Need-returns
+returns c =
+    let e = c .before .before .before .before .before .before .before .before .before .before .before .before .before in
+    called-stopped (reminder (e .args .number)) refl (stopped-by (lent e) (lends e) (e .args .number) (e .args .time) (c .before .before .before .before .judge .ensures) (c .before .before .n .given .1)) (c .refused .ensures)
+
+same-length-3 : tie.Need-same-length-3
+same-length-3 c = search needs
+
+same-length-4 : tie.Need-same-length-4
+same-length-4 c = search needs
+
+same-length-5 : tie.Need-same-length-5
+same-length-5 c = search needs
+
+same-length-6 : tie.Need-same-length-6
+same-length-6 c = search needs
+
+same-length-7 : tie.Need-same-length-7
+same-length-7 c = search needs
+
+returns-2 : tie.Need-returns-2
+returns-2 c =
+    let e = c .before .before .before .before .before .before .before .before .before .before .before .before .before .before .before .before .before .before .before .before .before .before .before .before .before .before .before .before in
+    let opened = opened-by (lent e) (lends e) (e .args .number) (e .args .time) (c .before .before .before .before .before .before .before .before .before .before .before .before .before .before .before .before .before .before .before .judge .ensures) (c .before .before .before .before .before .before .before .before .before .before .before .before .before .before .before .before .before .r .given .1) in
+    called-reminder opened (c .before .before .before .before .before .before .before .before .before .before .remind .ensures)
+
+pub reminder-spec : {M : Type 1} → statement M
+reminder-spec =
+    tie.close
+    (tie.spec
+    judge-requires
+    enum-known-n
+    refused-requires
+    enum-known-r
+    remind-requires
+    same-length
+    same-length-2
+    returns
+    same-length-3
+    same-length-4
+    same-length-5
+    same-length-6
+    same-length-7
+    returns-2)

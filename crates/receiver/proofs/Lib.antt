@@ -1,4 +1,0 @@
-pub mod Unique
-pub mod Running
-pub mod Lent
-pub mod Instances

@@ -1,0 +1,15 @@
+pub mod Zeroing
+pub mod Telling
+pub mod Showing
+pub mod Viewing
+pub mod Settled
+pub mod Ruled
+pub mod Keyed
+pub mod Promised
+pub mod Known
+pub mod Opening
+pub mod Events
+pub mod Unique
+pub mod Running
+pub mod Lent
+pub mod Instances

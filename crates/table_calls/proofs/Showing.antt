@@ -1,0 +1,78 @@
+-- A look at one place: what is told of its record where it is sound, and number 6 where it is broken. Assumes nothing.
+use Prim.Native.Nat.{ℕ, _+_, _≤_}
+use mathlib.Core.Path.{_≡_, refl, sym, _∙_}
+use mathlib.Core.Bool.{Bool, true, false}
+use mathlib.Core.List.{List, _++_, map}
+use native.Mathlib.Omega.{arith}
+use lib.ListN.{length, getD, drop, length-map}
+use lib.Seq.{sets}
+use Rattle.ring.specs.Ring.{forward, steps}
+use Rattle.larq.specs.Channel.{window, sound}
+use Rattle.larq.proofs.Sound.{Sound, sound-is}
+use Rattle.record.specs.Place.{cellAt, spanOf, recordWith, recordOf, soundAt}
+use Rattle.record.specs.Place as place
+use Rattle.record.specs.Buffers.{Laid}
+use Rattle.record.proofs.Laying.{wrote-front}
+use Rattle.judging.proofs.Sounds.{sound-handles}
+use Rattle.judging.proofs.Sounds.{sound-by-sizes}
+use Rattle.record.proofs.Windows.{length-window}
+use Rattle.table_calls.specs.Look.{shownAt, cellMark, cellValue, Looked}
+use Rattle.table_calls.specs.declared.looking.View.{View}
+
+-- a list that was laid from the front of a buffer
+fronted : (x before after : List ℕ) → after ≡ sets before 0 x → length x ≤ length before → after ≡ x ++ drop (length x) before
+fronted x before after e h =
+    let laid : Laid x 0 before after (0 + length x) = record { end-is = refl; buffer = e } in
+    wrote-front laid h .buffer
+
+-- the parts and the buffers are as long as they should be
+module _ (w h k X Y : List ℕ) (lw : length w ≡ 35) (lk : length k ≡ 32) where
+  sounds : (b : Bool) → soundAt w k ≡ b → sound window (recordOf w h k) ≡ b
+  sounds b e = sound-handles w h k ∙ sym (sound-by-sizes w k lw lk) ∙ e
+
+  pub broken-looked : (given : View) → soundAt w k ≡ false
+      → (given .number ≡ 6) × (given .current ≡ 0) × (given .oldest ≡ 0) × (given .latest ≡ 0) × (given .span ≡ 0)
+      → Looked (shownAt (recordOf w h k)) X X Y Y given
+  broken-looked given e g =
+      rw (sounds false e) (record { number = g .0; current = g .1; oldest = g .2; latest = g .3; span = g .4; marks = refl; cells = refl })
+
+  module _ (e : soundAt w k ≡ true) where
+    abbrev span : ℕ
+    span = spanOf (getD w 0 0) (getD w 1 0)
+
+    is-sound : Sound window (recordOf w h k)
+    is-sound = sound-is window (recordOf w h k) (sounds true e)
+
+    pub record Fits : Type 0 where
+      pub current : getD w 0 0 ≤ 4095
+      pub oldest : getD w 1 0 ≤ 4095
+      pub short : span ≤ 32
+
+    pub fits : Fits
+    unfolding recordWith
+    fits =
+        let s = is-sound in
+        record { current = s .current; oldest = s .oldest; short = rw (length-window (cellAt w h k) (getD w 1 0) span) at (s .short) }
+
+    pub span-is : (n f : ℕ) → n ≡ steps (getD w 1 0) f → f ≡ forward (getD w 0 0) 1 → n ≡ span
+    span-is n f n-is f-is = omega (arith, n-is, f-is)
+
+    pub looked : (n : ℕ) (X′ Y′ : List ℕ) → n ≡ span → 32 ≤ length X → 32 ≤ length Y
+        → X′ ≡ sets X 0 (map cellMark (place.window (cellAt w h k) (getD w 1 0) n)) → Y′ ≡ sets Y 0 (map cellValue (place.window (cellAt w h k) (getD w 1 0) n))
+        → (given : View) → (given .number ≡ 0) × (given .current ≡ getD w 0 0) × (given .oldest ≡ getD w 1 0) × (given .latest ≡ getD w 2 0) × (given .span ≡ n)
+        → Looked (shownAt (recordOf w h k)) X X′ Y Y′ given
+    unfolding recordWith
+    looked n X′ Y′ n-is roomX roomY eX eY given g =
+        let cells = place.window (cellAt w h k) (getD w 1 0) n in
+        let many : length cells ≡ n = length-window (cellAt w h k) (getD w 1 0) n in
+        let short = fits .short in
+        rw (sounds true e, ← n-is)
+        (record {
+          number = g .0;
+          current = g .1;
+          oldest = g .2;
+          latest = g .3;
+          span = g .4 ∙ sym many;
+          marks = fronted (map cellMark cells) X X′ eX (omega (arith, length-map cells cellMark));
+          cells = fronted (map cellValue cells) Y Y′ eY (omega (arith, length-map cells cellValue));
+        })

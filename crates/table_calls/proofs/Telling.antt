@@ -1,0 +1,49 @@
+-- The cells of a window told one after the other into two buffers: what the loop keeps. What is still to be told from here is what was to be told
+-- from the start. Assumes nothing.
+use Prim.Native.Nat.{ℕ, _+_, _-_, _%_, _≤_, _<_}
+use mathlib.Core.Path.{_≡_, refl, ap, sym, _∙_}
+use mathlib.Core.Bool.{Bool, true, false, cond}
+use mathlib.Core.List.{List, [], map}
+use native.Mathlib.Omega.{arith}
+use lib.Dec.{eqb}
+use lib.ListN.{length, getD, set, length-set}
+use lib.Seq.{sets}
+use Rattle.ring.specs.Ring.{next}
+use Rattle.larq.specs.Channel.{Cell, waits, missing}
+use Rattle.record.specs.Place.{window, cellAt}
+use Rattle.record.proofs.Laying.{sets-more}
+use Rattle.record.proofs.Windows.{window-none, window-suc}
+use Rattle.table_calls.specs.Look.{cellMark}
+
+-- one buffer, which takes a number for each cell
+pub record Tells (say : Cell ℕ → ℕ) (cell : ℕ → Cell ℕ) (m n : ℕ) (before now : List ℕ) (i left to : ℕ) : Type 0 where
+  pub count : to + left ≡ n
+  pub sized : length now ≡ length before
+  pub rest : sets now to (map say (window cell i left)) ≡ sets before 0 (map say (window cell m n))
+
+pub tells-start : (say : Cell ℕ → ℕ) (cell : ℕ → Cell ℕ) (m n : ℕ) (before : List ℕ) → Tells say cell m n before before m n 0
+tells-start say cell m n before = record { count = omega arith; sized = refl; rest = refl }
+
+module _ {say : Cell ℕ → ℕ} {cell : ℕ → Cell ℕ} {m n : ℕ} {before now : List ℕ} {i left to : ℕ} (t : Tells say cell m n before now i left to) where
+  pub tells-more : (j v i′ : ℕ) → 0 < left → j ≡ i % 32 → v ≡ say (cell j) → i′ ≡ next i
+      → Tells say cell m n before (set now to v) i′ (left - 1) (to + 1)
+  tells-more j v i′ some at-slot told on =
+      record {
+        count = omega (arith, t .count);
+        sized = simp length-set (t .sized);
+        rest =
+            sets-more now to v (map say (window cell i′ (left - 1)))
+            ∙ rw (told, at-slot, on) (ap (λ (l : List (Cell ℕ)). sets now to (map say l)) (sym (window-suc cell i left some)))
+            ∙ t .rest;
+      }
+
+  pub tells-end : left ≤ 0 → now ≡ sets before 0 (map say (window cell m n))
+  tells-end done = sym (ap (λ (l : List (Cell ℕ)). sets now to (map say l)) (window-none cell i left (omega arith))) ∙ t .rest
+
+-- whether a number waits is told by its mark alone
+pub mark-alone : (w h k : List ℕ) (j : ℕ) → cellMark (cellAt [] [] k j) ≡ cellMark (cellAt w h k j)
+mark-alone w h k j = go (eqb (getD k j 0) 0)
+  where
+    go : (b : Bool) → cellMark (cond b (missing (getD [] (3 + j) 0)) (waits (getD [] j 0))) ≡ cellMark (cond b (missing (getD w (3 + j) 0)) (waits (getD h j 0)))
+    go true = refl
+    go false = refl

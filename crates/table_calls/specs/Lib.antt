@@ -1,0 +1,5 @@
+pub mod Emptied
+pub mod Look
+pub mod Event
+pub mod Writes
+pub mod Calls
