@@ -7,7 +7,7 @@ frame-requires : tie.Need-frame-requires
 frame-requires c κs = search needs
 
 returns : tie.Need-returns
-returns c = cc
+returns c = rw (c .frame .ensures)
 
 pub answer-spec : {M : Type 1} → statement M
 answer-spec = tie.close (tie.spec frame-requires returns)

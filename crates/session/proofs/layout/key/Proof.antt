@@ -13,7 +13,7 @@ one-requires : tie.Need-one-requires
 one-requires c κs = search needs
 
 returns : tie.Need-returns
-returns c = cc
+returns c = rw (c .before .before .six .ensures, c .before .six2 .ensures, c .one .ensures)
 
 pub key-spec : {M : Type 1} → statement M
 key-spec = tie.close (tie.spec six-requires six-requires-2 one-requires returns)
