@@ -67,22 +67,22 @@ module _ (i : ℕ) where
   stays-end d (suc k) t p = absurd p
 
   -- it is in OldestTx, in PreviousTx with one end to come, or in NewTx with two
-  abbrev Told : ℕ → Tx → Type 0
-  Told zero t = i isIn t .oldest
-  Told (suc zero) t = i isIn t .previous
-  Told (suc (suc zero)) t = i isIn t .new
-  Told (suc (suc (suc k))) t = ⊥
+  abbrev ToOldest : ℕ → Tx → Type 0
+  ToOldest zero t = i isIn t .oldest
+  ToOldest (suc zero) t = i isIn t .previous
+  ToOldest (suc (suc zero)) t = i isIn t .new
+  ToOldest (suc (suc (suc k))) t = ⊥
 
-  told-use : (k : ℕ) (t : Tx) (f : ℕ) → Unit {0} → Told k t → Told k (addedTx t f)
-  told-use zero t f u p = p
-  told-use (suc zero) t f u p = p
-  told-use (suc (suc zero)) t f u p = in-with i (t .new) f .1 (inl p)
-  told-use (suc (suc (suc k))) t f u p = p
+  to-oldest-use : (k : ℕ) (t : Tx) (f : ℕ) → Unit {0} → ToOldest k t → ToOldest k (addedTx t f)
+  to-oldest-use zero t f u p = p
+  to-oldest-use (suc zero) t f u p = p
+  to-oldest-use (suc (suc zero)) t f u p = in-with i (t .new) f .1 (inl p)
+  to-oldest-use (suc (suc (suc k))) t f u p = p
 
-  told-end : (d k : ℕ) (t : Tx) → Told (suc k) t → Told k (rolledTx d t)
-  told-end d zero t p = p
-  told-end d (suc zero) t p = p
-  told-end d (suc (suc k)) t p = absurd p
+  to-oldest-end : (d k : ℕ) (t : Tx) → ToOldest (suc k) t → ToOldest k (rolledTx d t)
+  to-oldest-end d zero t p = p
+  to-oldest-end d (suc zero) t p = p
+  to-oldest-end d (suc (suc k)) t p = absurd p
 
   -- NewTx and PreviousTx have it as the default set has, NewTx with one end to come, and no set need with two
   abbrev Goes : ℕ → ℕ → Tx → Type 0
@@ -107,7 +107,7 @@ module _ (i : ℕ) where
 
 pub ages : (i f : ℕ) (s : Station) (es : List Event) → i isIn f → Ages i f s es
 unfolding run
-ages i f s es h = record { stays = stays; goes = goes; told = told }
+ages i f s es h = record { stays = stays; goes = goes; inOldest = inOldest }
   where
     after : Station
     after = afterUse s f
@@ -135,7 +135,7 @@ ages i f s es h = record { stays = stays; goes = goes; told = told }
         start (suc zero) l = absurd (omega arith)
         start (suc (suc k)) l = tt
 
-    told : periodEnds es ≡ 2 → i isIn run s (useOf f ∷ es) .tx .oldest
-    told e =
-        along (Told i) (λ g. Unit) (s .default) (told-use i) (told-end i (s .default)) after es refl (any-use es)
-        (subst (λ (k : ℕ). Told i k (after .tx)) (sym e) inNew)
+    inOldest : periodEnds es ≡ 2 → i isIn run s (useOf f ∷ es) .tx .oldest
+    inOldest e =
+        along (ToOldest i) (λ g. Unit) (s .default) (to-oldest-use i) (to-oldest-end i (s .default)) after es refl (any-use es)
+        (subst (λ (k : ℕ). ToOldest i k (after .tx)) (sym e) inNew)

@@ -35,9 +35,9 @@ pub gone : ¬ (5 isIn currentTx (run station (useOf 0b0010_0000 ∷ later) .tx))
 unfolding periodEnds EachUse
 gone p = let z : _≡_ {A = ℕ} 0 1 = ages 5 0b0010_0000 station later refl .goes (omega arith) (refl, tt) .0 p in omega arith
 
-pub told : 5 isIn run station (useOf 0b0010_0000 ∷ later) .tx .oldest
+pub in-oldest : 5 isIn run station (useOf 0b0010_0000 ∷ later) .tx .oldest
 unfolding periodEnds
-told = ages 5 0b0010_0000 station later refl .told refl
+in-oldest = ages 5 0b0010_0000 station later refl .inOldest refl
 
 -- the same sets by computation
 pub worked-out : run station (useOf 0b0010_0000 ∷ later) .tx ≡ record { new = 0b1000_0001; previous = 0b1000_0101; oldest = 0b1010_0001 }

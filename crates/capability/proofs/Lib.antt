@@ -1,4 +1,4 @@
-pub mod Settled
+pub mod OneOutcome
 pub mod Bits
 pub mod Flags
 pub mod Formulas

@@ -51,13 +51,13 @@ outcomeOf a = record {
 }
 
 -- the answer that leaves this station, with the sets as they then are
-abbrev pub answered : ℕ → Station → Bool → ℕ → Order → Outcome
-answered n s sends new order = record { number = n; station = s; sends = sends; frame = carried s; reported = new; timer = order }
+abbrev pub outcomeWith : ℕ → Station → Bool → ℕ → Order → Outcome
+outcomeWith n s sends new order = record { number = n; station = s; sends = sends; frame = carried s; reported = new; timer = order }
 
 -- number 0: whether a frame is sent, the flags reported as really new, and the order for the timer
 abbrev pub accepted : Station → Bool → ℕ → Order → Outcome
-accepted = answered 0
+accepted = outcomeWith 0
 
 -- another number: nothing is changed, sent or reported, and the timer is kept
 abbrev pub refused : ℕ → Station → Outcome
-refused n s = answered n s false 0 (orderOf Kept)
+refused n s = outcomeWith n s false 0 (orderOf Kept)

@@ -47,4 +47,4 @@ pub record Ages (i f : ℕ) (s : Station) (es : List Event) : Type 0 where
   -- after two period ends without use it is gone, unless it is in the default set
   pub goes : 2 ≤ periodEnds es → EachUse (λ g. i isNotIn g) es → (i isIn currentTx (run s (useOf f ∷ es) .tx)) ↔ (i isIn s .default)
   -- and the frames of that period say so: it is in their OldestTx
-  pub told : periodEnds es ≡ 2 → i isIn run s (useOf f ∷ es) .tx .oldest
+  pub inOldest : periodEnds es ≡ 2 → i isIn run s (useOf f ∷ es) .tx .oldest

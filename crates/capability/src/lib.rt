@@ -2,7 +2,7 @@
 // Document 01, 'Capability sets'; 001, 6.5.3 to 6.5.5. Each of the 32 bits is a flag, and every word is a set, so no station is refused.
 ghost use mathlib.Core.Path.{_≡_};
 ghost use Rattle.capability.specs.Sets.{currentTx, currentRx, carried};
-ghost use Rattle.capability.specs.Answers.{orderOf, orderNumber, startIf, cancelThenStartIf, outcomeOf, answered};
+ghost use Rattle.capability.specs.Answers.{orderOf, orderNumber, startIf, cancelThenStartIf, outcomeOf, outcomeWith};
 ghost use Rattle.capability.specs.Events.{fresh, unannounced, addedTx, rolledTx, rolledRx, reallyNew, takenAway, heardRx, used, ended, received};
 
 // NewTx, PreviousTx and OldestTx: the flags that the station used in this period, the one before, and the one before that.
@@ -220,7 +220,7 @@ impl Station {
     }
 
     fn answer(self, number: u8, sends: bool, reported: u32, timer: Timer) -> Answer
-        ensures { λ r. ⌜ outcomeOf r ≡ answered number self sends reported (orderOf timer) ⌝ }
+        ensures { λ r. ⌜ outcomeOf r ≡ outcomeWith number self sends reported (orderOf timer) ⌝ }
     {
         let frame = self.frame();
         Answer {

@@ -20,7 +20,7 @@ use Rattle.larq.specs.Events.{opened, taken, grown, settledAt, after, fi
 use Rattle.larq.specs.Table.{Key, Table, channels, Event, one, numberInRing}
 use Rattle.larq.specs.Run.{answers, eventsOf, answersTo}
 use Rattle.larq.specs.Demands.{untilClosed}
-use Rattle.larq.specs.Counts.{Sent, sent, reminded, strayed, strayReminded, ticked, closed, Note, actOf, eventOf, Near, NearBy, raised, Within, Rising, allUp, numbers}
+use Rattle.larq.specs.Counts.{Sent, sent, reminded, strayed, strayReminded, ticked, closed, Note, actOf, eventOfNote, Near, NearBy, raised, Within, Rising, allUp, numbers}
 use Rattle.larq.proofs.Cases.{one-case}
 use Rattle.larq.proofs.Untouched.{act-accepts}
 use Rattle.larq.proofs.Walk.{Passed, walk-passes}
@@ -29,15 +29,15 @@ use Rattle.larq.proofs.Sound.{Sound, sound-is}
 use Rattle.larq.proofs.Restart.{onward, until, from-record}
 
 -- what the side of a count tells, where it is within the reach of hi
-abbrev Told : ℕ → ℕ → Side → Type 0
-Told hi u (Ahead d) = ((u ≡ hi + d) × (0 < d))
-Told hi u (Behind d) = u ≤ hi
-Told hi u Far = ⊥
+abbrev NearSide : ℕ → ℕ → Side → Type 0
+NearSide hi u (Ahead d) = ((u ≡ hi + d) × (0 < d))
+NearSide hi u (Behind d) = u ≤ hi
+NearSide hi u Far = ⊥
 
-told : (w hi u : ℕ) → w < 1024 → Near w hi u → Told hi u (seen (reach w) (hi % size) (u % size))
-told w hi u half p = go (decLt hi u)
+near-side : (w hi u : ℕ) → w < 1024 → Near w hi u → NearSide hi u (seen (reach w) (hi % size) (u % size))
+near-side w hi u half p = go (decLt hi u)
   where
-    go : Dec (hi < u) → Told hi u (seen (reach w) (hi % size) (u % size))
+    go : Dec (hi < u) → NearSide hi u (seen (reach w) (hi % size) (u % size))
     go (yes l) = rw (seen-above (reach w) hi u (omega arith) l (p .0)) (omega arith, omega arith)
     go (no l) = rw (seen-below (reach w) hi u (omega arith) (omega arith) (p .1)) (omega arith)
 
@@ -175,7 +175,7 @@ module _ {H : Type 0} (count : H → ℕ) where
         (subst (λ m. Counts m (replicate k (missing t) ++ last)) (sym (inv .span)) (Counts-missing (suc hi) k t last p)))
         (let l : length (grown c t k last) ≡ length (c .cells) + (k + length last) = simp (length-append, length-replicate) in omega (arith, inv .span)) refl
 
-    data-steps : (h : H) → Sound w c → (r : Side) → Told hi (count h) r → Near w hi (count h) → Steps n hi (max hi (count h)) c (data-on w c t (count h % size) h r)
+    data-steps : (h : H) → Sound w c → (r : Side) → NearSide hi (count h) r → Near w hi (count h) → Steps n hi (max hi (count h)) c (data-on w c t (count h % size) h r)
     data-steps h s (Ahead d) p q =
         subst (λ m. Steps n hi m c (data-on w c t (count h % size) h (Ahead d))) (omega arith) (grown-steps (count h) (d - 1) (waits h ∷ []) (omega arith, tt) (omega arith))
     data-steps h s (Behind d) p q =
@@ -195,13 +195,13 @@ module _ {H : Type 0} (count : H → ℕ) where
         go (some ds) r = walked-steps (wide w) hi 0 (c .current) ds (r .0) (ap (λ (m : ℕ). n + m) (r .1) ∙ inv .span) (inv .current)
     data-steps h s Far p q = absurd p
 
-    reminder-steps : (u : ℕ) (r : Side) → Told hi u r → Steps n hi (max hi u) c (reminder-on w c t (u % size) r)
+    reminder-steps : (u : ℕ) (r : Side) → NearSide hi u r → Steps n hi (max hi u) c (reminder-on w c t (u % size) r)
     reminder-steps u (Ahead d) p = subst (λ m. Steps n hi m c (reminder-on w c t (u % size) (Ahead d))) (omega arith) (grown-steps u d [] tt (omega arith))
     reminder-steps u (Behind d) p = subst (λ m. Steps n hi m c (reminder-on w c t (u % size) (Behind d))) (omega arith) (stays-steps [])
     reminder-steps u Far p = absurd p
 
-    seen-current : (u : ℕ) → Near w hi u → Told hi u (sideOf w c (u % size))
-    seen-current u q = rw (inv .current) (told w hi u half q)
+    seen-current : (u : ℕ) → Near w hi u → NearSide hi u (sideOf w c (u % size))
+    seen-current u q = rw (inv .current) (near-side w hi u half q)
 
     -- a number above 4,095 does not pass
     no-stray : {A : Type 0} (k : ℕ) → leb (size + k) 4095 ≡ true → A
@@ -218,28 +218,28 @@ module _ {H : Type 0} (count : H → ℕ) where
     act-steps closed i s q = record { to = n; climbs = omega arith; next = tt }
 
   one-steps : (w : ℕ) → w < 1024 → (n hi : ℕ) (c : Channel H) → Numbered n hi c → (k : Key) (e : Note H)
-      → (one w true (c ∷ []) (eventOf count k e) .answer .number ≡ 0 → NearBy count w hi (e .what))
-      → Steps n hi (raised count hi (e .what)) c (one w true (c ∷ []) (eventOf count k e))
+      → (one w true (c ∷ []) (eventOfNote count k e) .answer .number ≡ 0 → NearBy count w hi (e .what))
+      → Steps n hi (raised count hi (e .what)) c (one w true (c ∷ []) (eventOfNote count k e))
   one-steps w half n hi c inv k e =
-      one-case w true (c ∷ []) (eventOf count k e) (λ o. (o .answer .number ≡ 0 → NearBy count w hi (e .what)) → Steps n hi (raised count hi (e .what)) c o)
+      one-case w true (c ∷ []) (eventOfNote count k e) (λ o. (o .answer .number ≡ 0 → NearBy count w hi (e .what)) → Steps n hi (raised count hi (e .what)) c o)
       (λ r _. refused-steps w half n hi c (e .time) inv (raised count hi (e .what)) r)
       (λ p q. act-steps w half n hi c (e .time) inv (e .what) (p .ring) (sound-is w c (p .whole)) (q (act-accepts w c (e .time) (actOf count (e .what)))))
 
   -- along the events of an open channel, until it is closed
   run-climbs : (w : ℕ) → w < 1024 → (k : Key) (n hi : ℕ) (c : Channel H) → Numbered n hi c → (ns : List (Note H))
-      → Within count w hi ns (numbers (until w c (map (eventOf count k) ns))) → (top : ℕ) × Climbs n top (allUp (until w c (map (eventOf count k) ns)))
+      → Within count w hi ns (numbers (until w c (map (eventOfNote count k) ns))) → (top : ℕ) × Climbs n top (allUp (until w c (map (eventOfNote count k) ns)))
   run-climbs w half k n hi c inv [] q = (n, omega arith)
   run-climbs w half k n hi c inv (e ∷ ns) q =
-      go (one w true (c ∷ []) (eventOf count k e)) (one-steps w half n hi c inv k e (q .0)) (λ n hi d i q. run-climbs w half k n hi d i ns q) (q .1)
+      go (one w true (c ∷ []) (eventOfNote count k e)) (one-steps w half n hi c inv k e (q .0)) (λ n hi d i q. run-climbs w half k n hi d i ns q) (q .1)
     where
       es : List (Event H)
-      es = map (eventOf count k) ns
+      es = map (eventOfNote count k) ns
 
       go : (o : Outcome H) → Steps n hi (raised count hi (e .what)) c o
-          → ((n hi : ℕ) (d : Channel H) → Numbered n hi d → Within count w hi ns (numbers (until w d (map (eventOf count k) ns)))
-          → (top : ℕ) × Climbs n top (allUp (until w d (map (eventOf count k) ns))))
-          → Within count w (cond (eqb (o .answer .number) 0) (raised count hi (e .what)) hi) ns (numbers (onward (o .change) c (λ d. until w d (map (eventOf count k) ns)) []))
-          → (top : ℕ) × Climbs n top (o .answer .up ++ allUp (onward (o .change) c (λ d. until w d (map (eventOf count k) ns)) []))
+          → ((n hi : ℕ) (d : Channel H) → Numbered n hi d → Within count w hi ns (numbers (until w d (map (eventOfNote count k) ns)))
+          → (top : ℕ) × Climbs n top (allUp (until w d (map (eventOfNote count k) ns))))
+          → Within count w (cond (eqb (o .answer .number) 0) (raised count hi (e .what)) hi) ns (numbers (onward (o .change) c (λ d. until w d (map (eventOfNote count k) ns)) []))
+          → (top : ℕ) × Climbs n top (o .answer .up ++ allUp (onward (o .change) c (λ d. until w d (map (eventOfNote count k) ns)) []))
       go o r ih q = next (o .change) (r .next) q
         where
           hi′ : ℕ
@@ -260,7 +260,7 @@ module _ {H : Type 0} (count : H → ℕ) where
   -- From an opening or a restart of k by the frame of count u, and whatever comes on other channels: as long as no frame or reminder of k is
   -- accepted more than the reach away from the highest before, what k hands up until its close rises strictly by count, past u
   pub order : (w : ℕ) → w < 1024 → (k : Key) (t : Table H) (u time : ℕ) (cs : List (Channel H)) → channels k t ≡ opened (u % size) time ∷ cs
-      → (es : List (Event H)) (ns : List (Note H)) → eventsOf k es ≡ map (eventOf count k) ns
+      → (es : List (Event H)) (ns : List (Note H)) → eventsOf k es ≡ map (eventOfNote count k) ns
       → Within count w u ns (numbers (untilClosed (eventsOf k es) (answersTo k es (answers w t es))))
       → Rising count (suc u) (allUp (untilClosed (eventsOf k es) (answersTo k es (answers w t es))))
   order w half k t u time cs e es ns v q =
@@ -269,11 +269,11 @@ module _ {H : Type 0} (count : H → ℕ) where
       c : Channel H
       c = opened (u % size) time
 
-      here : untilClosed (eventsOf k es) (answersTo k es (answers w t es)) ≡ until w c (map (eventOf count k) ns)
+      here : untilClosed (eventsOf k es) (answersTo k es (answers w t es)) ≡ until w c (map (eventOfNote count k) ns)
       here = from-record w k t c cs e es ∙ ap (until w c) v
 
-      climbs : (top : ℕ) × Rising count (suc u) (allUp (until w c (map (eventOf count k) ns)))
+      climbs : (top : ℕ) × Rising count (suc u) (allUp (until w c (map (eventOfNote count k) ns)))
       climbs =
-          let r : (top : ℕ) × Climbs (suc u) top (allUp (until w c (map (eventOf count k) ns)))
+          let r : (top : ℕ) × Climbs (suc u) top (allUp (until w c (map (eventOfNote count k) ns)))
           = run-climbs w half k (suc u) u c (opened-numbered u time) ns (rw here at q) in
-          (r .0, Climbs-rising (suc u) (r .0) (allUp (until w c (map (eventOf count k) ns))) (r .1))
+          (r .0, Climbs-rising (suc u) (r .0) (allUp (until w c (map (eventOfNote count k) ns))) (r .1))

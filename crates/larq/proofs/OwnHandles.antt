@@ -11,7 +11,7 @@ use Rattle.larq.specs.Events.{opened}
 use Rattle.larq.specs.Table.{Key, held, Table, channels, Event}
 use Rattle.larq.specs.Run.{answers, eventsOf, answersTo}
 use Rattle.larq.specs.Demands.{untilClosed}
-use Rattle.larq.specs.Counts.{Note, eventOf, Within, Rising, allUp, numbers}
+use Rattle.larq.specs.Counts.{Note, eventOfNote, Within, Rising, allUp, numbers}
 use Rattle.larq.proofs.Order.{order}
 use Rattle.larq.specs.Answer.{Change, same, holds, freed}
 use Rattle.larq.specs.Table.{one, outcome, step}
@@ -36,14 +36,14 @@ numbers-renamed f (r ∷ rs) = ap (λ l. r .number ∷ l) (numbers-renamed f rs)
 
 -- events of one channel only
 module _ {H : Type 0} (count : H → ℕ) (k : Key) where
-  events-all : (ns : List (Note H)) → eventsOf k (map (eventOf count k) ns) ≡ map (eventOf count k) ns
+  events-all : (ns : List (Note H)) → eventsOf k (map (eventOfNote count k) ns) ≡ map (eventOfNote count k) ns
   events-all [] = refl
-  events-all (n ∷ ns) = rw (sameKey-refl k) (ap (λ l. eventOf count k n ∷ l) (events-all ns))
+  events-all (n ∷ ns) = rw (sameKey-refl k) (ap (λ l. eventOfNote count k n ∷ l) (events-all ns))
 
   answers-all : (w : ℕ) (t : Table H) (ns : List (Note H))
-      → answersTo k (map (eventOf count k) ns) (answers w t (map (eventOf count k) ns)) ≡ answers w t (map (eventOf count k) ns)
+      → answersTo k (map (eventOfNote count k) ns) (answers w t (map (eventOfNote count k) ns)) ≡ answers w t (map (eventOfNote count k) ns)
   answers-all w t [] = refl
-  answers-all w t (n ∷ ns) = rw (sameKey-refl k) (ap (λ l. outcome w t (eventOf count k n) .answer ∷ l) (answers-all w (step w t (eventOf count k n)) ns))
+  answers-all w t (n ∷ ns) = rw (sameKey-refl k) (ap (λ l. outcome w t (eventOfNote count k n) .answer ∷ l) (answers-all w (step w t (eventOfNote count k n)) ns))
 
 module _ {A : Type 0} where
   -- a handle beside the sender's count of its frame
@@ -55,13 +55,13 @@ module _ {A : Type 0} where
 
   -- the answers of a box that has this channel alone, to the marked events, until the close
   abbrev pub marked : ℕ → Key → Channel (ℕ × A) → List (Note (ℕ × A)) → List (Answer (ℕ × A))
-  marked w k c ns = untilClosed (map (eventOf countOf k) ns) (answers w (held k c ∷ []) (map (eventOf countOf k) ns))
+  marked w k c ns = untilClosed (map (eventOfNote countOf k) ns) (answers w (held k c ∷ []) (map (eventOfNote countOf k) ns))
 
-  marked-until : (w : ℕ) (k : Key) (c : Channel (ℕ × A)) (ns : List (Note (ℕ × A))) → marked w k c ns ≡ until w c (map (eventOf countOf k) ns)
+  marked-until : (w : ℕ) (k : Key) (c : Channel (ℕ × A)) (ns : List (Note (ℕ × A))) → marked w k c ns ≡ until w c (map (eventOfNote countOf k) ns)
   marked-until w k c ns =
-      ap (untilClosed (map (eventOf countOf k) ns)) (sym (answers-all countOf k w (held k c ∷ []) ns))
-      ∙ ap (λ l. untilClosed l (answersTo k (map (eventOf countOf k) ns) (answers w (held k c ∷ []) (map (eventOf countOf k) ns)))) (sym (events-all countOf k ns))
-      ∙ from-record w k (held k c ∷ []) c [] (rw (sameKey-refl k)) (map (eventOf countOf k) ns)
+      ap (untilClosed (map (eventOfNote countOf k) ns)) (sym (answers-all countOf k w (held k c ∷ []) ns))
+      ∙ ap (λ l. untilClosed l (answersTo k (map (eventOfNote countOf k) ns) (answers w (held k c ∷ []) (map (eventOfNote countOf k) ns)))) (sym (events-all countOf k ns))
+      ∙ from-record w k (held k c ∷ []) c [] (rw (sameKey-refl k)) (map (eventOfNote countOf k) ns)
       ∙ ap (until w c) (events-all countOf k ns)
 
   -- what the box answers, rs, is what the marked run answers with the marks taken off; and by the marks what goes up rises strictly
@@ -70,7 +70,7 @@ module _ {A : Type 0} where
     pub rising : Rising countOf (suc u) (allUp (marked w k (opened (u % size) time) ns))
 
   pub own-order : (w : ℕ) → w < 1024 → (k : Key) (t : Table A) (u time : ℕ) (cs : List (Channel A)) → channels k t ≡ opened (u % size) time ∷ cs
-      → (es : List (Event A)) (ns : List (Note (ℕ × A))) → eventsOf k es ≡ map (on-event own) (map (eventOf countOf k) ns)
+      → (es : List (Event A)) (ns : List (Note (ℕ × A))) → eventsOf k es ≡ map (on-event own) (map (eventOfNote countOf k) ns)
       → Within countOf w u ns (numbers (untilClosed (eventsOf k es) (answersTo k es (answers w t es))))
       → OwnOrder w k u time ns (untilClosed (eventsOf k es) (answersTo k es (answers w t es)))
   own-order w half k t u time cs e es ns v q =
@@ -80,7 +80,7 @@ module _ {A : Type 0} where
       c = opened (u % size) time
 
       ms : List (Event (ℕ × A))
-      ms = map (eventOf countOf k) ns
+      ms = map (eventOfNote countOf k) ns
 
       unmarked : untilClosed (eventsOf k es) (answersTo k es (answers w t es)) ≡ map (on-answer own) (marked w k c ns)
       unmarked =

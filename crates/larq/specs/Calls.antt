@@ -40,9 +40,9 @@ module _ {A : Type 0} where
   indexed i (e ∷ es) = indexedEvent i e ∷ indexed (suc i) es
 
   -- how often the handle of call j stands in a list
-  abbrev pub times : ℕ → List (ℕ × A) → ℕ
-  times j [] = 0
-  times j (x ∷ xs) = cond (eqb (x .0) j) 1 0 + times j xs
+  abbrev pub occurrences : ℕ → List (ℕ × A) → ℕ
+  occurrences j [] = 0
+  occurrences j (x ∷ xs) = cond (eqb (x .0) j) 1 0 + occurrences j xs
 
   abbrev pub IsData : Act A → Type 0
   IsData (frame s h) = Unit

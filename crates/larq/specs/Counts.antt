@@ -38,8 +38,8 @@ module _ {H : Type 0} (count : H → ℕ) where
   actOf ticked = tick
   actOf closed = close
 
-  abbrev pub eventOf : Key → Note H → Event H
-  eventOf k n = record { key = k; time = n .time; act = actOf (n .what); lent = n .lent }
+  abbrev pub eventOfNote : Key → Note H → Event H
+  eventOfNote k n = record { key = k; time = n .time; act = actOf (n .what); lent = n .lent }
 
   abbrev pub NearBy : ℕ → ℕ → Sent H → Type 0
   NearBy w hi (sent h) = Near w hi (count h)

@@ -73,7 +73,7 @@ module _ (reach c s : ℕ) (short : reach < half) where
       by-half (yes h) = ahead-far reach (steps c s) h p
       by-half (no h) = behind-far reach (steps c s) (size - suc (steps c s)) (omega arith) (omega arith) (omega arith)
 
-  -- The case law: match on the side and on this, or put it to an equation of `seen` by `told`.
+  -- The case law: match on the side and on this.
   pub sees : Seen reach c s (seen reach c s)
   sees = by-tests (decLt reach (steps c s)) (decLt reach (steps s c))
     where
@@ -89,9 +89,6 @@ module _ (reach c s : ℕ) (short : reach < half) where
           let some : 0 < steps c s = omega arith in
           let near : steps c s ≤ reach = omega arith in
           from (Ahead (steps c s)) (is-ahead (steps c s) some near refl) (record { some = some; near = near; is = refl })
-
-  pub told : {x : Side} → seen reach c s ≡ x → Seen reach c s x
-  told e = subst (Seen reach c s) e sees
 
 -- From the two tests of the code, by the reach of 64, to the side.
 far-side : (x : Side) → isFar x ≡ true → x ≡ Far

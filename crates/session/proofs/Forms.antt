@@ -8,7 +8,7 @@ use native.Mathlib.Omega.{arith}
 use borrow.Author.Tests.{eqb-true, eqb-false, leb-true, eq-eqb, ne-eqb, le-leb, lt-ltb, le-ltb, not-true}
 use lib.Dec.{eqb, leb, ltb}
 use Rattle.wire.proofs.Joined.{and-left, and-right}
-use Rattle.session.specs.Layout.{Form, forms, formIn, formOf, formFor, ofLength, lengthFits, endOf, endIn, fieldsEnd, known, isReadable}
+use Rattle.session.specs.Layout.{Form, forms, formIn, formOf, formFor, ofLength, formFits, endOf, endIn, fieldsEnd, known, isReadable}
 
 -- a test of each form of a list
 abbrev each : (Form → Bool) → List Form → Bool
@@ -67,14 +67,14 @@ known-some true f h = refl
 known-some false f h = cc
 
 -- the length that a form asks for, by whether other octets may follow
-fits-fixed : (f : Form) (n : ℕ) → f .more ≡ false → eqb n (endOf f) ≡ lengthFits f n
+fits-fixed : (f : Form) (n : ℕ) → f .more ≡ false → eqb n (endOf f) ≡ formFits f n
 fits-fixed f n h = sym (ap (λ (b : Bool). cond b (leb (endOf f) n) (eqb n (endOf f))) h)
 
-fits-followed : (f : Form) (n : ℕ) → f .more ≡ true → leb (endOf f) n ≡ lengthFits f n
+fits-followed : (f : Form) (n : ℕ) → f .more ≡ true → leb (endOf f) n ≡ formFits f n
 fits-followed f n h = sym (ap (λ (b : Bool). cond b (leb (endOf f) n) (eqb n (endOf f))) h)
 
 -- either way the body has its fields
-pub fits-end : (f : Form) (n : ℕ) → lengthFits f n ≡ true → endOf f ≤ n
+pub fits-end : (f : Form) (n : ℕ) → formFits f n ≡ true → endOf f ≤ n
 fits-end f n h = go (f .more) h
   where
     go : (b : Bool) → cond b (leb (endOf f) n) (eqb n (endOf f)) ≡ true → endOf f ≤ n
@@ -82,7 +82,7 @@ fits-end f n h = go (f .more) h
     go false h = let e = eqb-true n (endOf f) h in omega arith
 
 -- a body that has its fields, and no more octets unless they may follow, has a length that fits
-pub end-fits : (f : Form) (n : ℕ) → endOf f ≤ n → (f .more ≡ false → n ≡ endOf f) → lengthFits f n ≡ true
+pub end-fits : (f : Form) (n : ℕ) → endOf f ≤ n → (f .more ≡ false → n ≡ endOf f) → formFits f n ≡ true
 end-fits f n h exact = go (f .more) refl
   where
     go : (b : Bool) → f .more ≡ b → cond b (leb (endOf f) n) (eqb n (endOf f)) ≡ true
@@ -107,18 +107,18 @@ module _ (k n : ℕ) where
   pub readable-fixed : (fieldsEnd k ≡ 0 → ⊥) → k < 10 → eqb n (fieldsEnd k) ≡ isReadable k n
   readable-fixed h l =
       by-form (λ (o : Option Form). (endIn 0 o ≡ 0 → ⊥) → eqb n (endIn 0 o) ≡ known (ofLength n o)) (λ _ z. absurd (z refl))
-      (λ f e _. fits-fixed f n (fixed-found k f e l) ∙ known-if (lengthFits f n) f)
+      (λ f e _. fits-fixed f n (fixed-found k f e l) ∙ known-if (formFits f n) f)
       h
 
   pub readable-followed : (fieldsEnd k ≡ 0 → ⊥) → 10 ≤ k → leb (fieldsEnd k) n ≡ isReadable k n
   readable-followed h l =
       by-form (λ (o : Option Form). (endIn 0 o ≡ 0 → ⊥) → leb (endIn 0 o) n ≡ known (ofLength n o)) (λ _ z. absurd (z refl))
-      (λ f e _. fits-followed f n (followed-found k f e l) ∙ known-if (lengthFits f n) f)
+      (λ f e _. fits-followed f n (followed-found k f e l) ∙ known-if (formFits f n) f)
       h
 
   -- a readable body has the form of its kind, and a length that fits
   pub form-readable : (f : Form) → formOf k ≡ some f → isReadable k n ≡ true → formFor k n ≡ some f
-  form-readable f e h = ap (ofLength n) e ∙ known-some (lengthFits f n) f (ap (λ (o : Option Form). known (ofLength n o)) (sym e) ∙ h)
+  form-readable f e h = ap (ofLength n) e ∙ known-some (formFits f n) f (ap (λ (o : Option Form). known (ofLength n o)) (sym e) ∙ h)
 
   pub rest-unreadable : isReadable k n ≡ false → endIn n (formFor k n) ≡ n
   rest-unreadable h = go (formFor k n) h
@@ -130,7 +130,7 @@ module _ (k n : ℕ) where
   pub rest-readable : isReadable k n ≡ true → (endIn n (formFor k n) ≡ fieldsEnd k) × (fieldsEnd k ≤ n)
   rest-readable h =
       by-form (λ (o : Option Form). known (ofLength n o) ≡ true → (endIn n (ofLength n o) ≡ endIn 0 o) × (endIn 0 o ≤ n)) (λ _ z. absurd (let w : _≡_ {A = ℕ} 0 1 = cc in omega arith))
-      (λ f e z. (ap (endIn n) (known-some (lengthFits f n) f z), fits-end f n (known-if (lengthFits f n) f ∙ z)))
+      (λ f e z. (ap (endIn n) (known-some (formFits f n) f z), fits-end f n (known-if (formFits f n) f ∙ z)))
       h
 
 -- the form of a body is its kind's, and its length fits
@@ -143,10 +143,10 @@ form-of k n f e = go (formOf k) e
 
     go : (o : Option Form) → ofLength n o ≡ some f → o ≡ some f
     go none e = no-form e
-    go (some g) e = at g (lengthFits g n) e
+    go (some g) e = at g (formFits g n) e
 
-pub fits-of : (k n : ℕ) (f : Form) → formFor k n ≡ some f → lengthFits f n ≡ true
-fits-of k n f e = known-if (lengthFits f n) f ∙ (ap (λ (o : Option Form). known (ofLength n o)) (sym (form-of k n f e)) ∙ ap known e)
+pub fits-of : (k n : ℕ) (f : Form) → formFor k n ≡ some f → formFits f n ≡ true
+fits-of k n f e = known-if (formFits f n) f ∙ (ap (λ (o : Option Form). known (ofLength n o)) (sym (form-of k n f e)) ∙ ap known e)
 
 -- a kind that is none of 1 to n, as a match on it leaves it
 abbrev pub NoneTo : ℕ → ℕ → Type 0

@@ -8,7 +8,7 @@ use Prim.Native.Nat.{ℕ}
 use lib.ListN.{length, drop}
 use lib.Seq.{drop-length}
 use Rattle.wire.specs.Octets.{octetAt}
-use Rattle.session.specs.Layout.{Form, formOf, formFor, formAt, ofLength, known, isReadable, endIn, restAt, fieldsAt, Said, saidBy, said}
+use Rattle.session.specs.Layout.{Form, formOf, formFor, formAt, ofLength, known, isReadable, endIn, restAt, fieldsAt, Saying, saidBy, said}
 use Rattle.session.specs.Bodies.{keyAt, requestAt, keyValues, requestValues, kindOf, valuesOf, Reads}
 use Rattle.session.specs.declared.Key.{Key}
 use Rattle.session.specs.declared.Request.{Request}
@@ -50,12 +50,12 @@ module _ (s : List ℕ) {k : ℕ} (first : k ≡ octetAt s 0) where
       → kindOf r ≡ f .kind → valuesOf r ≡ fieldsAt s 1 (f .widths) → Reads s r
   reads-as j f r e readable is kind values =
       let w = said-by (form-readable k (length s) f (ap formOf is ∙ e) readable) in
-      record { kind = kind ∙ ap (λ (w : Said). w .kind) (sym w); values = values ∙ ap (λ (w : Said). w .values) (sym w) }
+      record { kind = kind ∙ ap (λ (w : Saying). w .kind) (sym w); values = values ∙ ap (λ (w : Saying). w .values) (sym w) }
 
   none-reads : formFor k (length s) ≡ none → Reads s Unreadable
   none-reads e =
       let w = said-by e in
-      record { kind = ap (λ (w : Said). w .kind) (sym w); values = ap (λ (w : Said). w .values) (sym w) }
+      record { kind = ap (λ (w : Saying). w .kind) (sym w); values = ap (λ (w : Saying). w .values) (sym w) }
 
   pub reads-unreadable : isReadable k (length s) ≡ false → Reads s Unreadable
   reads-unreadable h = none-reads (go (formFor k (length s)) h)

@@ -10,7 +10,7 @@ use lib.ListN.{length, drop, length-append, take-append-drop}
 use lib.Seq.{drop-cons, drop-drop, drop-at}
 use Rattle.wire.specs.Octets.{octetAt}
 use Rattle.session.specs.Numbers.{numberAt, spelled}
-use Rattle.session.specs.Layout.{Form, behind, endOf, lengthFits, formOf, formAt, ofLength, fieldsAt, Said, saidBy, said, Fit, fieldsOf, bodyOf}
+use Rattle.session.specs.Layout.{Form, behind, endOf, formFits, formOf, formAt, ofLength, fieldsAt, Saying, saidBy, said, Fit, fieldsOf, bodyOf}
 use Rattle.session.proofs.Spelling.{length-spelled, number-spelled, spelled-number}
 use Rattle.session.proofs.Forms.{some-eq, kind-found, fits-end, end-fits, form-of, fits-of}
 
@@ -44,7 +44,7 @@ fields-read (w ∷ ws) (v ∷ vs) before after h =
     (rw (← place, ← append-assoc before (spelled w v) later) (fields-read ws vs (before ++ spelled w v) after (h .1))))
 
 same-said : {k k′ : ℕ} {vs vs′ rest rest′ : List ℕ} → k ≡ k′ → vs ≡ vs′ → rest ≡ rest′
-    → _≡_ {A = Said} (record { kind = k; values = vs; rest = rest }) (record { kind = k′; values = vs′; rest = rest′ })
+    → _≡_ {A = Saying} (record { kind = k; values = vs; rest = rest }) (record { kind = k′; values = vs′; rest = rest′ })
 same-said p q r = λ i. record { kind = p i; values = q i; rest = r i }
 
 -- a body of a known form reads back as what was written
@@ -58,7 +58,7 @@ reads-back k f e vs rest fit alone =
     let end : endOf f ≡ 1 + length fields = behind-fields 1 (f .widths) vs fit in
     let size : length (fields ++ rest) ≡ length fields + length rest = length-append fields rest in
     let exact : (f .more ≡ false → n ≡ endOf f) = λ m. let none : length rest ≡ 0 = ap length (alone m) in omega arith in
-    let fits : lengthFits f n ≡ true = end-fits f n (omega arith) exact in
+    let fits : formFits f n ≡ true = end-fits f n (omega arith) exact in
     let form : ofLength n (formOf (f .kind)) ≡ some f = ap (ofLength n) (ap formOf same ∙ e) ∙ ap (λ (b : Bool). cond b (some f) none) fits in
     let length-fixed : length (f .kind ∷ fields) ≡ endOf f = omega arith in
     ap (saidBy (f .kind ∷ (fields ++ rest))) form
@@ -102,7 +102,7 @@ read-uniquely s s′ bytes bytes′ f f′ e e′ h =
     let of : formOf k ≡ some f = form-of k (length s) f e in
     let of′ : formOf k′ ≡ some f′ = form-of k′ (length s′) f′ e′ in
     let kinds : f .kind ≡ f′ .kind =
-    ap (λ (w : Said). w .kind) (sym (ap (saidBy s) e) ∙ (h ∙ ap (saidBy s′) e′)) in
+    ap (λ (w : Saying). w .kind) (sym (ap (saidBy s) e) ∙ (h ∙ ap (saidBy s′) e′)) in
     let same : f ≡ f′ = some-eq (sym of ∙ (ap formOf (sym (kind-found k f of) ∙ (kinds ∙ kind-found k′ f′ of′)) ∙ of′)) in
     sym (written-again s bytes f e)
-    ∙ (ap₂ (λ (f : Form) (w : Said). bodyOf f (w .values) (w .rest)) same h ∙ written-again s′ bytes′ f′ e′)
+    ∙ (ap₂ (λ (f : Form) (w : Saying). bodyOf f (w .values) (w .rest)) same h ∙ written-again s′ bytes′ f′ e′)

@@ -49,8 +49,8 @@ abbrev pub endOf : Form → ℕ
 endOf f = behind 1 (f .widths)
 
 -- a body of this length has the form: exactly so long, or at least so long where more octets may follow
-abbrev pub lengthFits : Form → ℕ → Bool
-lengthFits f n = cond (f .more) (leb (endOf f) n) (eqb n (endOf f))
+abbrev pub formFits : Form → ℕ → Bool
+formFits f n = cond (f .more) (leb (endOf f) n) (eqb n (endOf f))
 
 -- the form of a kind, if the kind is known
 abbrev pub formIn : List Form → ℕ → Option Form
@@ -71,7 +71,7 @@ fieldsEnd k = endIn 0 (formOf k)
 -- the form of a body of this kind and length, if the body is readable: the kind is known, and the length fits it
 abbrev pub ofLength : ℕ → Option Form → Option Form
 ofLength n none = none
-ofLength n (some f) = cond (lengthFits f n) (some f) none
+ofLength n (some f) = cond (formFits f n) (some f) none
 
 abbrev pub formFor : ℕ → ℕ → Option Form
 formFor k n = ofLength n (formOf k)
@@ -96,16 +96,16 @@ fieldsAt s at [] = []
 fieldsAt s at (w ∷ ws) = numberAt s at w ∷ fieldsAt s (at + w) ws
 
 -- what a body says: its kind, 0 where it is unreadable; the numbers in its fields; and the octets behind them
-pub record Said : Type 0 where
+pub record Saying : Type 0 where
   pub kind : ℕ
   pub values : List ℕ
   pub rest : List ℕ
 
-abbrev pub saidBy : List ℕ → Option Form → Said
+abbrev pub saidBy : List ℕ → Option Form → Saying
 saidBy s none = record { kind = 0; values = []; rest = [] }
 saidBy s (some f) = record { kind = f .kind; values = fieldsAt s 1 (f .widths); rest = drop (endOf f) s }
 
-unfoldable pub said : List ℕ → Said
+unfoldable pub said : List ℕ → Saying
 said s = saidBy s (formAt s)
 
 -- the octets behind a body's fields: the caller's own, and no copy of them

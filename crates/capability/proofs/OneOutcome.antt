@@ -1,4 +1,4 @@
--- Settled: any two answers that a contract allows are equal (document 01, 'How far a statement has to reach'). Assumes nothing.
+-- One outcome: any two answers that a contract allows are equal (document 01, 'How far a statement has to reach'). Assumes nothing.
 -- An answer's contract fixes its outcome, and an outcome is one answer's, since no two cases of the timer have the same order.
 use mathlib.Core.Path.{_≡_, refl, sym, ap, _∙_}
 use mathlib.Core.Bool.{cond}
@@ -34,5 +34,5 @@ whole : (a : Answer) → answerOf (outcomeOf a) ≡ a
 whole a = ap (λ (t : Timer). record { number = a .number; station = a .station; sends = a .sends; frame = a .frame; reported = a .reported; timer = t }) (back (a .timer))
 
 -- where it fixes the outcome, as for the three events
-pub settled : {a b : Answer} {o : Outcome} → outcomeOf a ≡ o → outcomeOf b ≡ o → a ≡ b
-settled {a} {b} p q = sym (whole a) ∙ ap answerOf (one-value p q) ∙ whole b
+pub answer-settled : {a b : Answer} {o : Outcome} → outcomeOf a ≡ o → outcomeOf b ≡ o → a ≡ b
+answer-settled {a} {b} p q = sym (whole a) ∙ ap answerOf (one-value p q) ∙ whole b
