@@ -28,7 +28,19 @@ one-requires-6 : tie.Need-one-requires-6
 one-requires-6 c κs = search needs
 
 returns : tie.Need-returns
-returns c = rw (c .before .before .before .before .before .before .before .six .ensures, c .before .before .before .before .before .before .six2 .ensures, c .before .before .before .before .before .one .ensures, c .before .before .before .before .one2 .ensures, c .before .before .before .one3 .ensures, c .before .before .one4 .ensures, c .before .one5 .ensures, c .one6 .ensures)
+returns c =
+    let counted = c .before .before .before .before in
+    let addressed = counted .before .before in
+    rw (
+      addressed .before .six .ensures,
+      addressed .six2 .ensures,
+      counted .before .one .ensures,
+      counted .one2 .ensures,
+      c .before .before .before .one3 .ensures,
+      c .before .before .one4 .ensures,
+      c .before .one5 .ensures,
+      c .one6 .ensures,
+    )
 
 pub request-spec : {M : Type 1} → statement M
 request-spec =
