@@ -1,7 +1,7 @@
 /*
  * Pikurandal, the link layer library of a wall box, for C: the LARQ receiver over a table of 64 channels, the capability sets and the rate
- * request frame. `rt staticlib wallbox` proves the library and writes the archive that has these functions, target/staticlib/libwallbox.a
- * (x86-64 Linux); it needs nothing but C's memcpy, memmove and memset.
+ * request frame. `host/archive` proves the library and makes the archive that has these functions, target/staticlib/libwallbox.a (x86-64
+ * Linux); it needs nothing but C's memcpy, memmove and memset.
  *
  * Each function is proved to do what stands here on every input, refused ones too: none has a condition that a caller could break by the values
  * that it passes. What no proof can see is the caller, so this is what the host owes:

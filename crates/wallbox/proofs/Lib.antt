@@ -1,3 +1,0 @@
-pub mod Six
-pub mod Told
-pub mod Settled
