@@ -1,4 +1,5 @@
--- `pik_empty` meets its contract: `empty` is called with the same arguments, and its contract is the same.
+-- `pik_empty` meets its contract: `empty` is called with the same arguments, and its contract is the same. The lengths of keys and words are searched for, so
+-- that a box which passes one for the other fails in what it ensures.
 use borrow.Author.Needs.{needs}
 use Rattle.pik_channel.proofs.channels.pik_empty.Statement.{statement}
 use Rattle.pik_channel.proofs.channels.pik_empty.Tie as tie
@@ -11,10 +12,10 @@ abbrev call : tie.After-slice-known8 → tie.After-empty
 call c = c .before .before .before .before .before .before .before .before
 
 same-length : tie.Need-same-length
-same-length c = call c .empty .kept .0
+same-length c = search needs
 
 same-length-2 : tie.Need-same-length-2
-same-length-2 c = call c .empty .kept .1 .0
+same-length-2 c = search needs
 
 same-length-3 : tie.Need-same-length-3
 same-length-3 c = call c .empty .kept .1 .1 .0
