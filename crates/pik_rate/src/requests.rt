@@ -47,13 +47,13 @@ pub struct Written {
     pub count: usize,
 }
 
-fn octets(a: Address) -> [u8; 6]
+fn octets_of(a: Address) -> [u8; 6]
     ensures { λ r. ⌜ r ≡ octetsOf a ⌝ }
 {
     [a.first, a.second, a.third, a.fourth, a.fifth, a.sixth]
 }
 
-fn given_address(o: [u8; 6]) -> Address
+fn address_for(o: [u8; 6]) -> Address
     ensures { λ r. ⌜ octetsOf r ≡ o ⌝ }
 {
     Address {
@@ -66,14 +66,14 @@ fn given_address(o: [u8; 6]) -> Address
     }
 }
 
-fn asked(q: Request) -> rate::Request
+fn request_of(q: Request) -> rate::Request
     ensures { λ r. ⌜ r ≡ requestOf q ⌝ }
 {
     let destination = q.destination;
     let source = q.source;
     rate::Request {
-        destination: octets(destination),
-        source: octets(source),
+        destination: octets_of(destination),
+        source: octets_of(source),
         opcode: q.opcode,
         bands: q.bands,
         pe1: q.pe1,
@@ -83,14 +83,14 @@ fn asked(q: Request) -> rate::Request
     }
 }
 
-fn given(q: rate::Request) -> Request
+fn request_for(q: rate::Request) -> Request
     ensures { λ r. ⌜ requestOf r ≡ q ⌝ }
 {
     let destination = q.destination;
     let source = q.source;
     Request {
-        destination: given_address(destination),
-        source: given_address(source),
+        destination: address_for(destination),
+        source: address_for(source),
         opcode: q.opcode,
         bands: q.bands,
         pe1: q.pe1,
@@ -109,7 +109,7 @@ pub extern "C" fn pik_rate_read(frame: &[u8]) -> Reading
     Reading {
         number: reading.number,
         addresses: reading.addresses,
-        request: given(request),
+        request: request_for(request),
         start: reading.start,
         extent: reading.extent,
     }
@@ -119,7 +119,7 @@ pub extern "C" fn pik_rate_read(frame: &[u8]) -> Reading
 pub extern "C" fn pik_rate_write(out: &mut [u8], request: Request, addresses: &[u8]) -> Written
     ensures { λ r. ⌜ Wrote (requestOf request) (now (addresses .entry)) (now (out .entry)) (now (out .exit)) (writtenOf r) ⌝ }
 {
-    let written = rate::write(out, asked(request), addresses);
+    let written = rate::write(out, request_of(request), addresses);
     Written {
         number: written.number,
         count: written.count,
@@ -142,7 +142,7 @@ pub extern "C" fn pik_rate_of(pe: u8) -> u8
 pub extern "C" fn pik_rate_chosen(request: Request) -> u8
     ensures { λ r. ⌜ r ≡ Option·getD (chosenOf (requestOf request)) 0 ⌝ }
 {
-    match rate::chosen_band(asked(request)) {
+    match rate::chosen_band(request_of(request)) {
         rate::Chosen::Band(number) => number,
         rate::Chosen::None => 0,
     }

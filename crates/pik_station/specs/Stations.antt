@@ -31,9 +31,9 @@ frameOf f = record { oldest = f .«oldest_tx»; current = f .«current_tx»; hea
 abbrev pub frameFor : inner-frame.Frame → Frame
 frameFor f = record { «oldest_tx» = f .oldest; «current_tx» = f .current; «current_rx» = f .heard }
 
--- what the host is told of an outcome: all of it
-abbrev pub told : Outcome → StationAnswer
-told o = record {
+-- what the host is answerFor of an outcome: all of it
+abbrev pub answerFor : Outcome → StationAnswer
+answerFor o = record {
   number = o .number;
   sends = o .sends;
   timer = orderNumber (o .timer);

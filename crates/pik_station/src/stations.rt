@@ -3,7 +3,7 @@ ghost use mathlib.Core.Path.{_≡_};
 ghost use Rattle.capability.specs.Answers.{outcomeOf};
 ghost use Rattle.capability.specs.Sets.{carried};
 ghost use Rattle.capability.specs.Events.{fresh, used, ended, received};
-ghost use Rattle.pik_station.specs.Stations.{stationOf, stationFor, frameOf, frameFor, told};
+ghost use Rattle.pik_station.specs.Stations.{stationOf, stationFor, frameOf, frameFor, answerFor};
 
 // The six sets of a station, in document 01's order.
 #[repr(C)]
@@ -35,7 +35,7 @@ pub struct StationAnswer {
     pub frame: Frame,
 }
 
-fn taken(s: Station) -> capability::Station
+fn station_of(s: Station) -> capability::Station
     ensures { λ r. ⌜ r ≡ stationOf s ⌝ }
 {
     capability::Station {
@@ -52,7 +52,7 @@ fn taken(s: Station) -> capability::Station
     }
 }
 
-fn given(s: capability::Station) -> Station
+fn station_for(s: capability::Station) -> Station
     ensures { λ r. ⌜ r ≡ stationFor s ⌝ }
 {
     Station {
@@ -65,7 +65,7 @@ fn given(s: capability::Station) -> Station
     }
 }
 
-fn given_frame(f: capability::Frame) -> Frame
+fn frame_for(f: capability::Frame) -> Frame
     ensures { λ r. ⌜ r ≡ frameFor f ⌝ }
 {
     Frame {
@@ -75,8 +75,8 @@ fn given_frame(f: capability::Frame) -> Frame
     }
 }
 
-fn tell(a: capability::Answer) -> StationAnswer
-    ensures { λ r. ⌜ r ≡ told (outcomeOf a) ⌝ }
+fn answer_for(a: capability::Answer) -> StationAnswer
+    ensures { λ r. ⌜ r ≡ answerFor (outcomeOf a) ⌝ }
 {
     let timer = a.timer;
     let station = a.station;
@@ -86,8 +86,8 @@ fn tell(a: capability::Answer) -> StationAnswer
         sends: a.sends,
         timer: timer.number(),
         reported: a.reported,
-        station: given(station),
-        frame: given_frame(frame),
+        station: station_for(station),
+        frame: frame_for(frame),
     }
 }
 
@@ -95,38 +95,38 @@ fn tell(a: capability::Answer) -> StationAnswer
 pub extern "C" fn pik_station_fresh(default_set: u32) -> Station
     ensures { λ r. ⌜ r ≡ stationFor (fresh «default_set») ⌝ }
 {
-    given(capability::Station::fresh(default_set))
+    station_for(capability::Station::fresh(default_set))
 }
 
 #[no_mangle]
 pub extern "C" fn pik_station_use(station: Station, flags: u32) -> StationAnswer
-    ensures { λ r. ⌜ r ≡ told (used (stationOf station) flags) ⌝ }
+    ensures { λ r. ⌜ r ≡ answerFor (used (stationOf station) flags) ⌝ }
 {
-    tell(taken(station).use_flags(flags))
+    answer_for(station_of(station).use_flags(flags))
 }
 
 #[no_mangle]
 pub extern "C" fn pik_station_period(station: Station) -> StationAnswer
-    ensures { λ r. ⌜ r ≡ told (ended (stationOf station)) ⌝ }
+    ensures { λ r. ⌜ r ≡ answerFor (ended (stationOf station)) ⌝ }
 {
-    tell(taken(station).end_period())
+    answer_for(station_of(station).end_period())
 }
 
 #[no_mangle]
 pub extern "C" fn pik_station_receive(station: Station, opcode: u8, frame: Frame) -> StationAnswer
-    ensures { λ r. ⌜ r ≡ told (received (stationOf station) opcode (frameOf frame)) ⌝ }
+    ensures { λ r. ⌜ r ≡ answerFor (received (stationOf station) opcode (frameOf frame)) ⌝ }
 {
     let f = capability::Frame {
         oldest: frame.oldest_tx,
         current: frame.current_tx,
         heard: frame.current_rx,
     };
-    tell(taken(station).receive(opcode, f))
+    answer_for(station_of(station).receive(opcode, f))
 }
 
 #[no_mangle]
 pub extern "C" fn pik_station_frame(station: Station) -> Frame
     ensures { λ r. ⌜ r ≡ frameFor (carried (stationOf station)) ⌝ }
 {
-    given_frame(taken(station).frame())
+    frame_for(station_of(station).frame())
 }

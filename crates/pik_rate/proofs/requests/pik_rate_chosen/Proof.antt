@@ -6,8 +6,8 @@ use Rattle.rate.specs.Rates.{bandOf, chosenOf}
 use Rattle.pik_rate.proofs.requests.pik_rate_chosen.Statement.{statement}
 use Rattle.pik_rate.proofs.requests.pik_rate_chosen.Tie as tie
 
-asked-requires : tie.Need-asked-requires
-asked-requires c κs = search needs
+request-of-requires : tie.Need-request-of-requires
+request-of-requires c κs = search needs
 
 chosen-band-requires : tie.Need-chosen-band-requires
 chosen-band-requires c κs = search needs
@@ -19,12 +19,12 @@ enum-told : tie.Need-enum-told
 enum-told c = search needs
 
 returns : tie.Need-returns
-returns c = ap (λ o. Option·getD o 0) (ap bandOf (sym (c .before .number .given .1)) ∙ c .before .before .before .chosen-band .ensures ∙ ap chosenOf (c .before .before .before .before .asked .ensures))
+returns c = ap (λ o. Option·getD o 0) (ap bandOf (sym (c .before .number .given .1)) ∙ c .before .before .before .chosen-band .ensures ∙ ap chosenOf (c .before .before .before .before .request-of .ensures))
 
 returns-2 : tie.Need-returns-2
-returns-2 c = ap (λ o. Option·getD o 0) (ap bandOf (sym (c .enum-told .given .1)) ∙ c .before .before .chosen-band .ensures ∙ ap chosenOf (c .before .before .before .asked .ensures))
+returns-2 c = ap (λ o. Option·getD o 0) (ap bandOf (sym (c .enum-told .given .1)) ∙ c .before .before .chosen-band .ensures ∙ ap chosenOf (c .before .before .before .request-of .ensures))
 
 pub pik-rate-chosen-spec : {M : Type 1} → statement M
 pik-rate-chosen-spec =
     tie.close
-    (tie.spec asked-requires chosen-band-requires enum-known-number enum-told returns returns-2)
+    (tie.spec request-of-requires chosen-band-requires enum-known-number enum-told returns returns-2)

@@ -6,11 +6,11 @@ use Rattle.pik_rate.proofs.requests.pik_rate_read.Tie as tie
 read-requires : tie.Need-read-requires
 read-requires c κs = search needs
 
-given-requires : tie.Need-given-requires
-given-requires c κs = search needs
+request-for-requires : tie.Need-request-for-requires
+request-for-requires c κs = search needs
 
 returns : tie.Need-returns
-returns c = rw (c .given .ensures) (c .before .before .read .ensures)
+returns c = rw (c .request-for .ensures) (c .before .before .read .ensures)
 
 pub pik-rate-read-spec : {M : Type 1} → statement M
-pik-rate-read-spec = tie.close (tie.spec read-requires given-requires returns)
+pik-rate-read-spec = tie.close (tie.spec read-requires request-for-requires returns)

@@ -3,8 +3,8 @@ use borrow.Author.Needs.{needs}
 use Rattle.pik_rate.proofs.requests.pik_rate_write.Statement.{statement}
 use Rattle.pik_rate.proofs.requests.pik_rate_write.Tie as tie
 
-asked-requires : tie.Need-asked-requires
-asked-requires c κs = search needs
+request-of-requires : tie.Need-request-of-requires
+request-of-requires c κs = search needs
 
 write-requires : tie.Need-write-requires
 write-requires c κs = search needs
@@ -13,7 +13,7 @@ same-length : tie.Need-same-length
 same-length c = search needs
 
 returns : tie.Need-returns
-returns c = rw (← c .before .before .before .asked .ensures) (c .before .before .write .ensures)
+returns c = rw (← c .before .before .before .request-of .ensures) (c .before .before .write .ensures)
 
 pub pik-rate-write-spec : {M : Type 1} → statement M
-pik-rate-write-spec = tie.close (tie.spec asked-requires write-requires same-length returns)
+pik-rate-write-spec = tie.close (tie.spec request-of-requires write-requires same-length returns)

@@ -6,11 +6,11 @@ use Rattle.pik_station.proofs.stations.pik_station_fresh.Tie as tie
 fresh-requires : tie.Need-fresh-requires
 fresh-requires c κs = search needs
 
-given-requires : tie.Need-given-requires
-given-requires c κs = search needs
+station-for-requires : tie.Need-station-for-requires
+station-for-requires c κs = search needs
 
 returns : tie.Need-returns
 returns c = cc
 
 pub pik-station-fresh-spec : {M : Type 1} → statement M
-pik-station-fresh-spec = tie.close (tie.spec fresh-requires given-requires returns)
+pik-station-fresh-spec = tie.close (tie.spec fresh-requires station-for-requires returns)

@@ -1,8 +1,8 @@
--- `given_address` meets its contract: the octets of what it gives are the six that it was given.
+-- `address_for` meets its contract: the octets of what it gives are the six that it was given.
 use borrow.Author.Needs.{needs}
 use Rattle.pik_rate.proofs.Six.{six-octets}
-use Rattle.pik_rate.proofs.requests.given_address.Statement.{statement}
-use Rattle.pik_rate.proofs.requests.given_address.Tie as tie
+use Rattle.pik_rate.proofs.requests.address_for.Statement.{statement}
+use Rattle.pik_rate.proofs.requests.address_for.Tie as tie
 
 array-read-t5 : tie.Need-array-read-t5
 array-read-t5 c = search needs
@@ -25,8 +25,8 @@ array-read-t20 c = search needs
 returns : tie.Need-returns
 returns c = six-octets _ (search needs)
 
-pub given-address-spec : {M : Type 1} → statement M
-given-address-spec =
+pub address-for-spec : {M : Type 1} → statement M
+address-for-spec =
     tie.close
     (tie.spec
     array-read-t5
