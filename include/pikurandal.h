@@ -36,8 +36,8 @@ enum pik_number {
     PIK_NO_PRIORITY = 3, /* the priority is above 7 */
     PIK_NO_CHANNEL = 4,  /* reminder, tick, close, look: no such channel is open */
     PIK_NO_PLACE = 5,    /* data: the channel would be new, and no place is free */
-    PIK_BROKEN = 6,      /* the channel's record is broken: the slices were written by someone else. A close is refused too; pik_empty frees the
-                            place, or zeros in its part of all four slices (docs/LAYOUT.md) */
+    PIK_BROKEN = 6,      /* the channel's record is broken: the slices were written by someone else. A close is refused too. Zeros in the place's
+                            part of all four slices free it (docs/LAYOUT.md); pik_empty does so to all 64 places */
     PIK_EARLY = 7,       /* the time is earlier than the channel's latest, which pik_look shows */
     PIK_FAR = 8,         /* reminder: the number is more than 64 from the current one, ahead or behind */
 
@@ -114,7 +114,7 @@ struct pik_answer {
  * - Frames go up in sequence. One that comes early waits, in a window of 32 numbers up to the current one. Where the current number moves on by so much
  *   that older numbers leave the window, those that waited go up and those that were missing are lost.
  * - A channel is a destination, a source (six octets each, in the order in which they stand in a frame) and a priority 0 to 7. The first frame opens
- *   it; a close, or pik_empty, frees its place.
+ *   it, a close frees its place, and pik_empty frees all 64 places.
  * - A time is the host's count of ticks, in a unit of the host's. On one channel it may stand still but not go back: number 7. Every accepted event sets
  *   the channel's latest time, also where it changes nothing else.
  * - A handle is any number by which the host knows a frame's body. What went up is the upper layer's, in this order; what was returned is the host's to
@@ -125,7 +125,7 @@ struct pik_answer {
  * - A table that only these functions wrote has no key twice. If one of the host's own making has, the first of its places is the channel, and a close
  *   frees that one alone. */
 
-/* Empties a table, whatever it held: all zeros. What waited in it is not returned. Number 1, or 0. */
+/* Empties a table, whatever it held: all 64 places are zeros, and free. What waited in them is not returned. Number 1, or 0. */
 uint8_t pik_empty(uint64_t *keys, size_t keys_length, uint64_t *words, size_t words_length, uint32_t *handles, size_t handles_length,
                   uint8_t *marks, size_t marks_length);
 

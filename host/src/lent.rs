@@ -120,8 +120,8 @@ pub fn close(slices: Slices<'_>, buffers: Buffers<'_>, channel: &Channel, time: 
     call!(pik_close, as_mut_ptr, slices, buffers, channel, time)
 }
 
-/// Empties a table, whatever it held: all four slices are zeros, and what waited is not returned. Number 0; slices of
-/// another length are refused by number 1, and stay as they are.
+/// Empties a table, whatever it held: all 64 places are zeros, and what waited in them is not returned. Number 0; slices
+/// of another length are refused by number 1, and stay as they are.
 pub fn empty(slices: Slices<'_>) -> u8 {
     // SAFETY: as in `call!`.
     unsafe {

@@ -22,7 +22,7 @@ pub enum Refusal {
     /// 5: the channel would be new, and no place is free.
     NoPlace = 5,
     /// 6: the channel's record is broken: someone else wrote to the slices. Every event of that channel is refused so, its
-    /// close too, until the table is emptied or the place is zeros.
+    /// close too, until its place is zeros in all four slices. To empty the table makes all 64 places so.
     Broken = 6,
     /// 7: the time is earlier than the channel's latest.
     Early = 7,
