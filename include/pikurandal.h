@@ -25,6 +25,32 @@
 extern "C" {
 #endif
 
+/* ---- The version: major, minor and patch. docs/changes/README.md says what each means for a host. */
+
+#define PIK_VERSION_MAJOR 1
+#define PIK_VERSION_MINOR 0
+#define PIK_VERSION_PATCH 0
+#define PIK_VERSION "1.0.0"
+#define PIK_VERSION_NUMBER (1000000 * PIK_VERSION_MAJOR + 1000 * PIK_VERSION_MINOR + PIK_VERSION_PATCH)
+
+/* The version of the archive that was linked, as PIK_VERSION_NUMBER is this header's. The major version is part of the name. */
+uint32_t pik_version_1(void);
+
+/* Every file that includes this header asks for that name, so that a host compiled against another major version does not link: the linker misses
+ * pik_version_1, or the like. gcc and clang keep the reference though nothing uses it; those that know `retain` have the linker keep it too where it
+ * drops what is not used (--gc-sections). With another compiler, call pik_version_1 when the host starts. */
+#ifdef __GNUC__
+#define PIK_KEPT __attribute__((used))
+#ifdef __has_attribute
+#if __has_attribute(retain)
+#undef PIK_KEPT
+#define PIK_KEPT __attribute__((used, retain))
+#endif
+#endif
+static uint32_t (*const pik_version_linked)(void) PIK_KEPT = pik_version_1;
+#undef PIK_KEPT
+#endif
+
 /* ---- The numbers an answer may have. 0 is accepted; each other one says why the call was refused, and then nothing was changed or written. */
 
 enum pik_number {

@@ -6,8 +6,8 @@
 //!
 //! The work is done in the archive `libwallbox.a`, each of whose functions is proved to do what is said of it on every
 //! input. This crate adds nothing but Rust's types, so that safe code cannot break what the archive leaves to its
-//! caller: pointers that are valid and aligned, lengths that are theirs, and slices that are apart. [`raw`] has the archive's functions as they are, and [`lent`]
-//! the channel events on any slices of the caller's.
+//! caller: pointers that are valid and aligned, lengths that are theirs, and slices that are apart. [`raw`] has the
+//! archive's functions as they are, and [`lent`] the channel events on any slices of the caller's.
 //!
 //! ```
 //! use pikurandal::{Channel, Table};
@@ -35,3 +35,10 @@ pub use lent::Channel;
 pub use refusal::Refusal;
 pub use station::{Frame, Order, Station, Timer};
 pub use table::{Answer, Cell, Record, Table};
+
+/// The version of this crate and of the archive that it links.
+pub const VERSION: &str = env!("CARGO_PKG_VERSION");
+
+/// Asks for the name that an archive of this major version has, so that one of another does not link.
+#[used]
+static LINKED: unsafe extern "C" fn() -> u32 = raw::pik_version_1;

@@ -187,6 +187,9 @@ channel_events! {
 }
 
 extern "C" {
+    /// The archive's version: 1,000,000 x major + 1,000 x minor + patch. The major version is part of the name.
+    pub fn pik_version_1() -> u32;
+
     /// Empties a table.
     pub fn pik_empty(
         keys: *mut u64,

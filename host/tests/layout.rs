@@ -1,5 +1,6 @@
-//! The C header and the binding agree: sizes and offsets of every struct, the lengths of slices, and the numbers. The
-//! binding's account of them is written as a file of C that claims each, and a C compiler holds it against the header.
+//! The C header and the binding agree: sizes and offsets of every struct, the lengths of slices, the numbers, and the
+//! version, which is the archive's too. The binding's account of them is written as a file of C that claims each, and a C
+//! compiler holds it against the header.
 
 use pikurandal::{lent, raw, Refusal, Timer};
 use std::fs;
@@ -99,6 +100,19 @@ fn numbers() -> Vec<String> {
     lengths.chain(accepted).chain(refusals).chain(timers).collect()
 }
 
+/// The header's version is the binding's, and as one number it is what the archive says of itself.
+fn version() -> Vec<String> {
+    let names = ["PIK_VERSION_MAJOR", "PIK_VERSION_MINOR", "PIK_VERSION_PATCH"];
+    let parts = pikurandal::VERSION
+        .split('.')
+        .map(|part| part.parse().expect("a number"));
+    let mut claims: Vec<String> = names.iter().zip(parts).map(|(name, part)| claim(name, part)).collect();
+    // SAFETY: it takes nothing.
+    let archive = unsafe { raw::pik_version_1() };
+    claims.push(claim("PIK_VERSION_NUMBER", archive as usize));
+    claims
+}
+
 /// The header's name of a case: the refusal `NoNumber` is `PIK_NO_NUMBER`, `Band1` is `PIK_BAND_1`.
 fn c_name(prefix: &str, case: &impl std::fmt::Debug) -> String {
     let mut name = prefix.to_string();
@@ -138,7 +152,7 @@ fn compiled(claims: &str, name: &str) -> Result<(), String> {
 
 #[test]
 fn header_and_binding_agree() {
-    let complaint = compiled(&[structs(), numbers()].concat().concat(), "layout.c").err();
+    let complaint = compiled(&[structs(), numbers(), version()].concat().concat(), "layout.c").err();
     assert!(complaint.is_none(), "{}", complaint.unwrap_or_default());
 }
 
