@@ -34,5 +34,5 @@ whole : (a : Answer) → answerOf (outcomeOf a) ≡ a
 whole a = ap (λ (t : Timer). record { number = a .number; station = a .station; sends = a .sends; frame = a .frame; reported = a .reported; timer = t }) (back (a .timer))
 
 -- where it fixes the outcome, as for the three events
-pub answer-settled : {a b : Answer} {o : Outcome} → outcomeOf a ≡ o → outcomeOf b ≡ o → a ≡ b
-answer-settled {a} {b} p q = sym (whole a) ∙ ap answerOf (one-value p q) ∙ whole b
+pub one-outcome : {a b : Answer} {o : Outcome} → outcomeOf a ≡ o → outcomeOf b ≡ o → a ≡ b
+one-outcome {a} {b} p q = sym (whole a) ∙ ap answerOf (one-value p q) ∙ whole b

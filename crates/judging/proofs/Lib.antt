@@ -2,4 +2,4 @@ pub mod Ordering
 pub mod Sounds
 pub mod Refusing
 pub mod Spots
-pub mod Settled
+pub mod OneOutcome

@@ -12,7 +12,7 @@ use Rattle.ring.specs.Ring.{next}
 use Rattle.larq.specs.Channel.{times, orderly}
 use Rattle.record.specs.Place.{cellAt}
 use Rattle.judging.specs.Judge.{timesOf}
-use Rattle.record.proofs.Windows.{window-none, window-suc, cell-waits, cell-missing}
+use Rattle.record.proofs.Windows.{cells-from-none, cells-from-suc, cell-waits, cell-missing}
 
 and-true : (b : Bool) → (b && true) ≡ b
 and-true true = refl
@@ -42,12 +42,12 @@ looks-start w k m n = record { says = rw (le-leb 0 (getD w 2 0) (omega arith)) }
 module _ {w k : List ℕ} {m n lo i left : ℕ} (keeps : Looks w k m n lo i left) where
   pub looks-end : left ≡ 0 → leb lo (getD w 2 0) ≡ orderly 0 (getD w 2 0) (timesOf w k m n)
   looks-end z =
-      sym (ap (λ l. ordered lo (getD w 2 0) (times l)) (window-none (cellAt w [] k) i left z) ∙ and-true (leb lo (getD w 2 0)))
+      sym (ap (λ l. ordered lo (getD w 2 0) (times l)) (cells-from-none (cellAt w [] k) i left z) ∙ and-true (leb lo (getD w 2 0)))
       ∙ keeps .says
 
   module _ {j : ℕ} (some : 0 < left) (at-slot : j ≡ i % 32) where
     missing-first : getD k j 0 ≡ 0 → timesOf w k i left ≡ getD w (3 + j) 0 ∷ timesOf w k (next i) (left - 1)
-    missing-first o = rw at-slot (ap times (window-suc (cellAt w [] k) i left some) ∙ rw (cell-missing w [] k (i % 32) (rw at-slot at o)))
+    missing-first o = rw at-slot (ap times (cells-from-suc (cellAt w [] k) i left some) ∙ rw (cell-missing w [] k (i % 32) (rw at-slot at o)))
 
     pub looks-falls : getD k j 0 ≡ 0 → getD w (3 + j) 0 < lo → false ≡ orderly 0 (getD w 2 0) (timesOf w k m n)
     looks-falls o l =
@@ -68,5 +68,5 @@ module _ {w k : List ℕ} {m n lo i left : ℕ} (keeps : Looks w k m n lo i left
       pub looks-waits : (getD k j 0 ≡ 0 → ⊥) → Looks w k m n lo i′ (left - 1)
       looks-waits o =
           let e : timesOf w k i left ≡ timesOf w k (next i) (left - 1) =
-          ap times (window-suc (cellAt w [] k) i left some) ∙ rw (cell-waits w [] k (i % 32) (rw at-slot at o)) in
+          ap times (cells-from-suc (cellAt w [] k) i left some) ∙ rw (cell-waits w [] k (i % 32) (rw at-slot at o)) in
           rw step (record { says = sym (ap (ordered lo (getD w 2 0)) e) ∙ keeps .says })

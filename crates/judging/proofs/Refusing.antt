@@ -10,7 +10,7 @@ use borrow.Author.Tests.{le-leb, lt-leb}
 use Rattle.wire.specs.Refusals.{Refusal}
 use Rattle.larq.specs.Channel.{window, sound}
 use Rattle.larq.specs.Table.{Lent, lentEnough}
-use Rattle.record.specs.Place.{recordWith, recordOf, soundAt, lentOf}
+use Rattle.record.specs.Place.{recordWith, recordOf, soundAt, placeLent}
 use Rattle.judging.specs.Judge.{common, RefusedBy, OpenAt}
 use Rattle.record.specs.declared.Record.{Record}
 use Rattle.record.proofs.Sizes.{Enough, enough-of}
@@ -18,7 +18,7 @@ use Rattle.judging.proofs.Sounds.{sound-by-sizes}
 
 module _ (words marks : List ℕ) (handles up returned nack s time : ℕ) where
   abbrev lent : Lent
-  lent = lentOf (length words) handles (length marks) up returned nack
+  lent = placeLent (length words) handles (length marks) up returned nack
 
   abbrev tests : List Refusal
   tests = common lent s time (recordOf words [] marks)

@@ -11,36 +11,36 @@ use Rattle.wire.proofs.Joined.{and-left, and-right}
 use Rattle.ring.specs.Ring.{next}
 use Rattle.larq.specs.Channel.{waits, missing, headMissing, times, orderly, sound}
 use Rattle.larq.specs.Channel as channel
-use Rattle.record.specs.Place.{window, cellAt, spanOf, recordWith, recordOf, soundAt}
+use Rattle.record.specs.Place.{cellsFrom, cellAt, spanOf, recordWith, recordOf, soundAt}
 use Rattle.judging.specs.Judge.{timesOf, inRing, shapely, inShape}
-use Rattle.record.proofs.Windows.{window-none, window-suc, length-window, cell-waits, cell-missing}
+use Rattle.record.proofs.Windows.{cells-from-none, cells-from-suc, length-cells-from, cell-waits, cell-missing}
 
 -- A test of the span, of M and of the times, by what the code finds.
 module _ (c m n : ℕ) (w k : List ℕ) (span : n ≡ spanOf c m) where
-  shape : inShape c m w k ≡ shapely (getD w 2 0) (window (cellAt w [] k) m n)
-  shape = ap (λ x. shapely (getD w 2 0) (window (cellAt w [] k) m x)) (sym span)
+  shape : inShape c m w k ≡ shapely (getD w 2 0) (cellsFrom (cellAt w [] k) m n)
+  shape = ap (λ x. shapely (getD w 2 0) (cellsFrom (cellAt w [] k) m x)) (sym span)
 
-  narrow : (n ≤ 32) → shapely (getD w 2 0) (window (cellAt w [] k) m n) ≡ (headMissing (window (cellAt w [] k) m n) && orderly 0 (getD w 2 0) (timesOf w k m n))
-  narrow l = rw (length-window (cellAt w [] k) m n, le-leb n 32 l)
+  narrow : (n ≤ 32) → shapely (getD w 2 0) (cellsFrom (cellAt w [] k) m n) ≡ (headMissing (cellsFrom (cellAt w [] k) m n) && orderly 0 (getD w 2 0) (timesOf w k m n))
+  narrow l = rw (length-cells-from (cellAt w [] k) m n, le-leb n 32 l)
 
   pub shape-none : n ≡ 0 → true ≡ inShape c m w k
-  shape-none z = sym (shape ∙ ap (λ cs. shapely (getD w 2 0) cs) (window-none (cellAt w [] k) m n z))
+  shape-none z = sym (shape ∙ ap (λ cs. shapely (getD w 2 0) cs) (cells-from-none (cellAt w [] k) m n z))
 
   pub shape-wide : 32 < n → false ≡ inShape c m w k
-  shape-wide l = sym (shape ∙ rw (length-window (cellAt w [] k) m n, lt-leb n 32 l))
+  shape-wide l = sym (shape ∙ rw (length-cells-from (cellAt w [] k) m n, lt-leb n 32 l))
 
   module _ {j : ℕ} (some : n ≡ 0 → ⊥) (fits : n ≤ 32) (at-slot : j ≡ m % 32) where
     -- the window, from its first cell
     pub shape-head : (getD k j 0 ≡ 0 → ⊥) → false ≡ inShape c m w k
     shape-head o =
-        let first : window (cellAt w [] k) m n ≡ waits (getD [] (m % 32) 0) ∷ window (cellAt w [] k) (next m) (n - 1) =
-        window-suc (cellAt w [] k) m n (omega arith) ∙ rw (cell-waits w [] k (m % 32) (rw at-slot at o)) in
+        let first : cellsFrom (cellAt w [] k) m n ≡ waits (getD [] (m % 32) 0) ∷ cellsFrom (cellAt w [] k) (next m) (n - 1) =
+        cells-from-suc (cellAt w [] k) m n (omega arith) ∙ rw (cell-waits w [] k (m % 32) (rw at-slot at o)) in
         sym (shape ∙ narrow fits ∙ ap (λ cs. headMissing cs && orderly 0 (getD w 2 0) (timesOf w k m n)) first)
 
     pub shape-times : getD k j 0 ≡ 0 → orderly 0 (getD w 2 0) (timesOf w k m n) ≡ inShape c m w k
     shape-times o =
-        let first : window (cellAt w [] k) m n ≡ missing (getD w (3 + m % 32) 0) ∷ window (cellAt w [] k) (next m) (n - 1) =
-        window-suc (cellAt w [] k) m n (omega arith) ∙ rw (cell-missing w [] k (m % 32) (rw at-slot at o)) in
+        let first : cellsFrom (cellAt w [] k) m n ≡ missing (getD w (3 + m % 32) 0) ∷ cellsFrom (cellAt w [] k) (next m) (n - 1) =
+        cells-from-suc (cellAt w [] k) m n (omega arith) ∙ rw (cell-missing w [] k (m % 32) (rw at-slot at o)) in
         sym (shape ∙ narrow fits ∙ ap (λ cs. headMissing cs && orderly 0 (getD w 2 0) (timesOf w k m n)) first)
 
 and-assoc : (a b c : Bool) → (a && (b && c)) ≡ ((a && b) && c)
@@ -83,24 +83,24 @@ module _ (w k : List ℕ) where
       (sym sound-is ∙ and-right sizes (sound channel.window (recordOf w [] k)) e))
 
 -- The handles have no part in whether a record is broken.
-times-window : (w h k : List ℕ) (m n : ℕ) → times (window (cellAt w h k) m n) ≡ times (window (cellAt w [] k) m n)
-unfolding window
-times-window w h k m zero = refl
-times-window w h k m (suc n) = by-mark (eqb (getD k (m % 32) 0) 0) (times-window w h k (next m) n)
+times-cells-from : (w h k : List ℕ) (m n : ℕ) → times (cellsFrom (cellAt w h k) m n) ≡ times (cellsFrom (cellAt w [] k) m n)
+unfolding cellsFrom
+times-cells-from w h k m zero = refl
+times-cells-from w h k m (suc n) = by-mark (eqb (getD k (m % 32) 0) 0) (times-cells-from w h k (next m) n)
   where
-    by-mark : (b : Bool) → times (window (cellAt w h k) (next m) n) ≡ times (window (cellAt w [] k) (next m) n)
-        → times (cond b (missing (getD w (3 + m % 32) 0)) (waits (getD h (m % 32) 0)) ∷ window (cellAt w h k) (next m) n)
-        ≡ times (cond b (missing (getD w (3 + m % 32) 0)) (waits (getD [] (m % 32) 0)) ∷ window (cellAt w [] k) (next m) n)
+    by-mark : (b : Bool) → times (cellsFrom (cellAt w h k) (next m) n) ≡ times (cellsFrom (cellAt w [] k) (next m) n)
+        → times (cond b (missing (getD w (3 + m % 32) 0)) (waits (getD h (m % 32) 0)) ∷ cellsFrom (cellAt w h k) (next m) n)
+        ≡ times (cond b (missing (getD w (3 + m % 32) 0)) (waits (getD [] (m % 32) 0)) ∷ cellsFrom (cellAt w [] k) (next m) n)
     by-mark true i = ap (λ l. getD w (3 + m % 32) 0 ∷ l) i
     by-mark false i = i
 
-head-window : (w h k : List ℕ) (m n : ℕ) → headMissing (window (cellAt w h k) m n) ≡ headMissing (window (cellAt w [] k) m n)
-unfolding window
-head-window w h k m zero = refl
-head-window w h k m (suc n) = by-mark (eqb (getD k (m % 32) 0) 0)
+head-cells-from : (w h k : List ℕ) (m n : ℕ) → headMissing (cellsFrom (cellAt w h k) m n) ≡ headMissing (cellsFrom (cellAt w [] k) m n)
+unfolding cellsFrom
+head-cells-from w h k m zero = refl
+head-cells-from w h k m (suc n) = by-mark (eqb (getD k (m % 32) 0) 0)
   where
-    by-mark : (b : Bool) → headMissing (cond b (missing (getD w (3 + m % 32) 0)) (waits (getD h (m % 32) 0)) ∷ window (cellAt w h k) (next m) n)
-        ≡ headMissing (cond b (missing (getD w (3 + m % 32) 0)) (waits (getD [] (m % 32) 0)) ∷ window (cellAt w [] k) (next m) n)
+    by-mark : (b : Bool) → headMissing (cond b (missing (getD w (3 + m % 32) 0)) (waits (getD h (m % 32) 0)) ∷ cellsFrom (cellAt w h k) (next m) n)
+        ≡ headMissing (cond b (missing (getD w (3 + m % 32) 0)) (waits (getD [] (m % 32) 0)) ∷ cellsFrom (cellAt w [] k) (next m) n)
     by-mark true = refl
     by-mark false = refl
 
@@ -110,4 +110,4 @@ sound-handles w h k =
     let c = getD w 0 0 in
     let m = getD w 1 0 in
     let n = spanOf c m in
-    rw (length-window (cellAt w h k) m n, length-window (cellAt w [] k) m n, head-window w h k m n, times-window w h k m n)
+    rw (length-cells-from (cellAt w h k) m n, length-cells-from (cellAt w [] k) m n, head-cells-from w h k m n, times-cells-from w h k m n)

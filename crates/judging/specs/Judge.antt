@@ -10,8 +10,7 @@ use Rattle.wire.specs.Refusals.{Refusal, _else_, first}
 use Rattle.larq.specs.Channel.{window, reach, Cell, Channel, headMissing, times, orderly, sound}
 use Rattle.ring.specs.Ring.{isNumber, steps, seen, Ahead, Behind, Far}
 use Rattle.larq.specs.Table.{Lent, lentEnough, notBefore}
-use Rattle.record.specs.Place as place
-use Rattle.record.specs.Place.{cellAt, spanOf, recordOf}
+use Rattle.record.specs.Place.{cellsFrom, cellAt, spanOf, recordOf}
 use Rattle.record.specs.Moving.{spanIn}
 use Rattle.record.specs.declared.Record.{Record}
 use Rattle.judging.specs.declared.Judged.{Judged}
@@ -21,7 +20,7 @@ use Rattle.judging.specs.declared.Spot.the-variants as spot
 
 -- the times of the missing numbers, in sequence order: the handles have no part in it
 abbrev pub timesOf : List ℕ → List ℕ → ℕ → ℕ → List ℕ
-timesOf words marks m n = times (place.window (cellAt words [] marks) m n)
+timesOf words marks m n = times (cellsFrom (cellAt words [] marks) m n)
 
 -- the parts of the test that a record is not broken: C and M are in the ring; the span is not above the window, M is missing if anything is,
 -- and the times of missing numbers are in order
@@ -32,7 +31,7 @@ abbrev pub shapely : ℕ → List (Cell ℕ) → Bool
 shapely latest cells = leb (length cells) window && (headMissing cells && orderly 0 latest (times cells))
 
 abbrev pub inShape : ℕ → ℕ → List ℕ → List ℕ → Bool
-inShape c m words marks = shapely (getD words 2 0) (place.window (cellAt words [] marks) m (spanOf c m))
+inShape c m words marks = shapely (getD words 2 0) (cellsFrom (cellAt words [] marks) m (spanOf c m))
 
 -- the tests that every event has, in the paper's order, with its number s
 abbrev pub common : Lent → ℕ → ℕ → Channel ℕ → List Refusal
@@ -66,9 +65,9 @@ pub record MissingAt (r : Record) (marks : List ℕ) (s : ℕ) : Type 0 where
   pub within : steps (r .oldest .0) s < spanIn r
   pub marked : getD marks (s % 32) 0 ≡ 0
 
-pub record KnownAt (r : Record) (marks : List ℕ) (s : ℕ) : Type 0 where
+pub record UnwantedAt (r : Record) (marks : List ℕ) (s : ℕ) : Type 0 where
   pub behind : BehindAt (r .current .0) s
-  pub known : (spanIn r ≤ steps (r .oldest .0) s) ⊎ ((steps (r .oldest .0) s < spanIn r) × (getD marks (s % 32) 0 ≡ 0 → ⊥))
+  pub unwanted : (spanIn r ≤ steps (r .oldest .0) s) ⊎ ((steps (r .oldest .0) s < spanIn r) × (getD marks (s % 32) 0 ≡ 0 → ⊥))
 
 -- M, while nothing is missing
 pub record NextAt (r : Record) (s : ℕ) : Type 0 where
@@ -85,5 +84,5 @@ abbrev pub LiesAt : Record → List ℕ → ℕ → Spot → Type 0
 LiesAt r marks s spot.Next = NextAt r s
 LiesAt r marks s (spot.Ahead d) = AheadAt r s d
 LiesAt r marks s spot.Missing = MissingAt r marks s
-LiesAt r marks s spot.Known = KnownAt r marks s
+LiesAt r marks s spot.Unwanted = UnwantedAt r marks s
 LiesAt r marks s spot.Far = seen (reach window) (r .current .0) s ≡ Far

@@ -4,7 +4,7 @@ ghost use mathlib.Core.Path.{_≡_};
 ghost use Prim.Native.Nat.{_<_};
 ghost use lib.ListN.{length, getD};
 ghost use Rattle.larq.specs.Channel.{orderly};
-ghost use Rattle.record.specs.Place.{soundAt, lentOf};
+ghost use Rattle.record.specs.Place.{soundAt, placeLent};
 ghost use Rattle.judging.specs.Judge.{inRing, timesOf, inShape, Judges, LiesAt};
 use larq::WINDOW;
 use record::Record;
@@ -109,7 +109,7 @@ pub fn judge(
     number: u16,
     time: u64,
 ) -> Judged
-    ensures { λ r. ⌜ Judges (lentOf (length (now (words .entry))) handles (length (now (marks .entry))) up returned nack) (now (words .entry)) (now (marks .entry)) number time r ⌝ }
+    ensures { λ r. ⌜ Judges (placeLent (length (now (words .entry))) handles (length (now (marks .entry))) up returned nack) (now (words .entry)) (now (marks .entry)) number time r ⌝ }
 {
     if !lent_enough(words.len(), handles, marks.len(), up, returned, nack) {
         return Judged::Refused(1);
@@ -132,7 +132,7 @@ pub enum Spot {
     Next,
     Ahead(u16),
     Missing,
-    Known,
+    Unwanted,
     Far,
 }
 
@@ -153,12 +153,12 @@ pub fn spot_of(r: Record, marks: &[u8], s: Seq) -> Spot
         return Spot::Ahead(c.steps(s));
     }
     if n <= m.steps(s) {
-        return Spot::Known;
+        return Spot::Unwanted;
     }
     let j = slot(s);
     if octet(marks, j) == 0 {
         Spot::Missing
     } else {
-        Spot::Known
+        Spot::Unwanted
     }
 }

@@ -12,8 +12,8 @@ use Rattle.larq.specs.Channel.{Channel, sound}
 use Rattle.larq.specs.Answer.{Change, Outcome, refused}
 use Rattle.larq.specs.Events.{Act, act-on}
 use Rattle.larq.specs.Table.{one, lentEnough, numberInRing, notBefore, reminderNear}
-use Rattle.record.specs.Place.{window, recordWith, recordOf}
-use Rattle.place.specs.Call.{Buffers, Parts, buffers, Answered, Became, Says, Did, Called, ruleAt}
+use Rattle.record.specs.Place.{cellsFrom, recordWith, recordOf}
+use Rattle.place.specs.Call.{Buffers, Parts, buffers, Answered, Became, Says, DidAt, Called, ruleAt}
 use Rattle.place.specs.Steps.{lentAt}
 use Rattle.place.specs.declared.Answer.{Answer}
 use Rattle.record.specs.declared.Record.{Record}
@@ -43,35 +43,35 @@ answered-none says =
     }
 
 -- A refusal touches nothing.
-pub did-nothing : {n : ℕ} {p : Parts} {b : Buffers} {a : Answer} → Says n 0 0 0 0 a → Did (refused n) p p b b a
-did-nothing says = record { answered = answered-none says; became = refl }
+pub did-nothing : {n : ℕ} {p : Parts} {b : Buffers} {a : Answer} → Says n 0 0 0 0 a → DidAt (refused n) p p b b a
+did-nothing says = record { answer = answered-none says; became = refl }
 
 -- The same outcome, told in another way.
-pub did-as : {o o′ : Outcome ℕ} {before after : Parts} {had has : Buffers} {a : Answer} → o ≡ o′ → Did o′ before after had has a
-    → Did o before after had has a
+pub did-as : {o o′ : Outcome ℕ} {before after : Parts} {had has : Buffers} {a : Answer} → o ≡ o′ → DidAt o′ before after had has a
+    → DidAt o before after had has a
 did-as {o} {o′} {before} {after} {had} {has} {a} e d =
     record {
-      answered = subst⁻¹ (λ (x : Outcome ℕ). Answered x had has a) e (d .answered);
+      answer = subst⁻¹ (λ (x : Outcome ℕ). Answered x had has a) e (d .answer);
       became = subst⁻¹ (λ (x : Outcome ℕ). Became (x .change) before after) e (d .became);
     }
 
 -- A buffer that a function was not lent stays as it is.
 module _ {o : Outcome ℕ} {before after : Parts} {a : Answer} where
-  pub did-returned : {U u N n : List ℕ} (B : List ℕ) → Did o before after (buffers U [] N) (buffers u [] n) a
-      → Did o before after (buffers U B N) (buffers u B n) a
+  pub did-returned : {U u N n : List ℕ} (B : List ℕ) → DidAt o before after (buffers U [] N) (buffers u [] n) a
+      → DidAt o before after (buffers U B N) (buffers u B n) a
   did-returned B d =
-      let x = d .answered in
+      let x = d .answer in
       record {
-        answered = record { number = x .number; up = x .up; returned = wrote-idle _ B _ (x .returned); nack = x .nack; lost = x .lost };
+        answer = record { number = x .number; up = x .up; returned = wrote-idle _ B _ (x .returned); nack = x .nack; lost = x .lost };
         became = d .became;
       }
 
-  pub did-nack : {U u B b : List ℕ} (N : List ℕ) → Did o before after (buffers U B []) (buffers u b []) a
-      → Did o before after (buffers U B N) (buffers u b N) a
+  pub did-nack : {U u B b : List ℕ} (N : List ℕ) → DidAt o before after (buffers U B []) (buffers u b []) a
+      → DidAt o before after (buffers U B N) (buffers u b N) a
   did-nack N d =
-      let x = d .answered in
+      let x = d .answer in
       record {
-        answered = record { number = x .number; up = x .up; returned = x .returned; nack = wrote-idle _ N _ (x .nack); lost = x .lost };
+        answer = record { number = x .number; up = x .up; returned = x .returned; nack = wrote-idle _ N _ (x .nack); lost = x .lost };
         became = d .became;
       }
 
@@ -103,9 +103,9 @@ module _ (p : Parts) (b : Buffers) (s time : ℕ) (act : Act ℕ) (number : numb
   rule-opened : {r : Record} → Opened p b s time r → ruleAt p b time act ≡ done
   rule-opened opened = let e = passes opened in rule-is ∙ rw (e .0, e .1, e .2, e .3)
 
-called : {p after : Parts} {b has : Buffers} {time : ℕ} {act : Act ℕ} {o : Outcome ℕ} {a : Answer} → ruleAt p b time act ≡ o → Did o p after b has a
+called : {p after : Parts} {b has : Buffers} {time : ℕ} {act : Act ℕ} {o : Outcome ℕ} {a : Answer} → ruleAt p b time act ≡ o → DidAt o p after b has a
     → Called act time p after b has a
-called e d = let x = did-as e d in record { answered = x .answered; became = x .became }
+called e d = let x = did-as e d in record { answer = x .answer; became = x .became }
 
 module _ {p : Parts} {b : Buffers} {s time : ℕ} (act : Act ℕ) (number : numberInRing act ≡ leb s 4095) where
   -- a refusal changes nothing
@@ -113,5 +113,5 @@ module _ {p : Parts} {b : Buffers} {s time : ℕ} (act : Act ℕ) (number : numb
   called-stopped stopped says = called (rule-stopped p b s time act number stopped) (did-nothing says)
 
   pub called-opened : {r : Record} {o : Outcome ℕ} {after : Parts} {has : Buffers} {a : Answer} → Opened p b s time r
-      → done p b s time act number ≡ o → Did o p after b has a → Called act time p after b has a
+      → done p b s time act number ≡ o → DidAt o p after b has a → Called act time p after b has a
   called-opened opened e d = called (rule-opened p b s time act number opened ∙ e) d

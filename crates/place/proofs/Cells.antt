@@ -9,10 +9,10 @@ use lib.ListN.{length, getD, set, replicate}
 use lib.Seq.{getD-set-same, getD-set-other}
 use Rattle.ring.specs.Ring.{size, forward}
 use Rattle.larq.specs.Channel.{Cell, waits, missing}
-use Rattle.record.specs.Place.{window, cellAt}
+use Rattle.record.specs.Place.{cellsFrom, cellAt}
 use Rattle.stepping.specs.Step.{stamped}
 use Rattle.record.proofs.Rounds.{slots-apart}
-use Rattle.record.proofs.Windows.{window-add, window-same, window-all, cell-missing}
+use Rattle.record.proofs.Windows.{cells-from-add, cells-from-same, cells-from-all, cell-missing}
 use Rattle.stepping.proofs.Stamping.{stamped-in, stamped-out}
 
 -- a handle is put at slot i, and the slot marked
@@ -40,17 +40,17 @@ module _ (w h k : List ℕ) (a n t : ℕ) where
       rw (e, f)
 
 -- The window when n numbers from `forward m old` on have become missing and `last` has come after them: the old ones stand as they did.
-pub window-grown : (f g : ℕ → Cell ℕ) (m old n t : ℕ) (last : List (Cell ℕ)) → m < size → old + (n + length last) ≤ 32
+pub cells-from-grown : (f g : ℕ → Cell ℕ) (m old n t : ℕ) (last : List (Cell ℕ)) → m < size → old + (n + length last) ≤ 32
     → ((j : ℕ) → ((i : ℕ) → i < n + length last → (forward m old + i) % 32 ≡ j → ⊥) → g j ≡ f j)
     → ((i : ℕ) → i < n → g ((forward m old + i) % 32) ≡ missing t)
-    → window g (forward (forward m old) n) (length last) ≡ last
-    → window g m (old + (n + length last)) ≡ window f m old ++ (replicate n (missing t) ++ last)
-window-grown f g m old n t last ring fits kept new end =
-    window-add g m old (n + length last) ring
+    → cellsFrom g (forward (forward m old) n) (length last) ≡ last
+    → cellsFrom g m (old + (n + length last)) ≡ cellsFrom f m old ++ (replicate n (missing t) ++ last)
+cells-from-grown f g m old n t last ring fits kept new end =
+    cells-from-add g m old (n + length last) ring
     ∙ ap₂ {C = List (Cell ℕ)} (λ x y. x ++ y)
-    (window-same g f m old (λ j p. kept ((m + j) % 32) (λ i q e. apart i j p q e)))
-    (window-add g (forward m old) n (length last) (omega arith)
-    ∙ ap₂ {C = List (Cell ℕ)} (λ x y. x ++ y) (window-all g (missing t) (forward m old) n new) end)
+    (cells-from-same g f m old (λ j p. kept ((m + j) % 32) (λ i q e. apart i j p q e)))
+    (cells-from-add g (forward m old) n (length last) (omega arith)
+    ∙ ap₂ {C = List (Cell ℕ)} (λ x y. x ++ y) (cells-from-all g (missing t) (forward m old) n new) end)
   where
     same : (i : ℕ) → (forward m old + i) % 32 ≡ (m + (old + i)) % 32
     same i = omega arith

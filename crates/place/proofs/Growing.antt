@@ -14,15 +14,15 @@ use Rattle.ring.proofs.Steps.{forward-small, forward-forward, forward-steps}
 use Rattle.larq.specs.Channel.{Cell, missing, waiting, headMissing, reach, Channel}
 use Rattle.larq.specs.Settling.{Walked, walk, wide}
 use Rattle.larq.specs.Events.{asked}
-use Rattle.record.specs.Place.{window, cellAt, spanOf}
+use Rattle.record.specs.Place.{cellsFrom, cellAt, spanOf}
 use Rattle.record.specs.Walk.{earlier, passes, waitingOf}
 use Rattle.stepping.specs.Step.{stamped}
 use Rattle.place.specs.Steps.{Sized, cellsOf, handlesWith, marksWith, Last, Waits, Missing}
 use Rattle.record.proofs.Rounds.{slots-apart, span-end, span-between}
-use Rattle.record.proofs.Windows.{length-window, drop-window, take-window, cell-missing}
-use Rattle.record.proofs.Waiting.{waiting-window}
+use Rattle.record.proofs.Windows.{length-cells-from, drop-cells-from, take-cells-from, cell-missing}
+use Rattle.record.proofs.Waiting.{waiting-cells-from}
 use Rattle.stepping.proofs.Stamping.{length-stamped}
-use Rattle.place.proofs.Cells.{cell-brought, cell-beside, cell-missed, cell-unmissed, window-grown}
+use Rattle.place.proofs.Cells.{cell-brought, cell-beside, cell-missed, cell-unmissed, cells-from-grown}
 use Rattle.record.proofs.Walks.{so-far, Passed, passed, waiting-append, waiting-fewer, waiting-none, up-few, passes-before, walk-narrow, walk-wide}
 use Rattle.record.proofs.Appending.{drop-append, take-append, drop-replicate}
 use Rattle.place.proofs.Asking.{asked-run}
@@ -129,7 +129,7 @@ module _ {w c m s k n d over past count first : ℕ} {last : Last} (g : Grows w 
   -- The window before and after.
   module _ (W H K : List ℕ) (sized : Sized W H K) (t : ℕ) where
     abbrev pub cells : List (Cell ℕ)
-    cells = window (cellAt W H K) m n
+    cells = cellsFrom (cellAt W H K) m n
 
     abbrev pub cells-all : List (Cell ℕ)
     cells-all = cells ++ (replicate k (missing t) ++ cellsOf last)
@@ -138,7 +138,7 @@ module _ {w c m s k n d over past count first : ℕ} {last : Last} (g : Grows w 
     new-cell = cellAt (stamped 3 W first count t) (handlesWith last s H) (marksWith last s (stamped 0 K first count 0))
 
     abbrev pub walk-again : Walked ℕ
-    walk-again = walk (earlier 0) (forward m over) (window new-cell (forward m over) (n + d - over))
+    walk-again = walk (earlier 0) (forward m over) (cellsFrom new-cell (forward m over) (n + d - over))
 
     abbrev pub handed : List ℕ
     handed = waitingOf H K m (over - past)
@@ -166,9 +166,9 @@ module _ {w c m s k n d over past count first : ℕ} {last : Last} (g : Grows w 
         slot-of e = omega arith
 
     end-by : (l : Last) → (length (cellsOf l) ≡ 1 → forward first count ≡ s)
-        → window (cellAt (stamped 3 W first count t) (handlesWith l s H) (marksWith l s (stamped 0 K first count 0))) (forward first count) (length (cellsOf l))
+        → cellsFrom (cellAt (stamped 3 W first count t) (handlesWith l s H) (marksWith l s (stamped 0 K first count 0))) (forward first count) (length (cellsOf l))
         ≡ cellsOf l
-    unfolding window
+    unfolding cellsFrom
     end-by Missing f = refl
     end-by (Waits x) f =
         rw (f refl)
@@ -177,14 +177,14 @@ module _ {w c m s k n d over past count first : ℕ} {last : Last} (g : Grows w 
         (omega (arith, sized .marks, length-stamped 0 0 K first count))))
 
     -- the old numbers that stay, the new ones that stay, and the last
-    pub window-again : window new-cell (forward m over) (n + d - over)
-        ≡ window (cellAt W H K) (forward m over) (n - over) ++ (replicate count (missing t) ++ cellsOf last)
-    window-again =
-        ap (window new-cell (forward m over)) sizes
-        ∙ window-grown (cellAt W H K) new-cell (forward m over) (n - over) count t (cellsOf last) (forward-small m over) fits
+    pub cells-from-again : cellsFrom new-cell (forward m over) (n + d - over)
+        ≡ cellsFrom (cellAt W H K) (forward m over) (n - over) ++ (replicate count (missing t) ++ cellsOf last)
+    cells-from-again =
+        ap (cellsFrom new-cell (forward m over)) sizes
+        ∙ cells-from-grown (cellAt W H K) new-cell (forward m over) (n - over) count t (cellsOf last) (forward-small m over) fits
         (λ j o. kept-by last last-follows j (λ i p e. o i p (ap (λ x. (x + i) % 32) (sym first-follows) ∙ e)))
         (λ i p. ap (λ x. new-cell ((x + i) % 32)) (sym first-follows) ∙ new-by last last-follows some-fit i p)
-        (ap (λ x. window new-cell (forward x count) (length (cellsOf last))) (sym first-follows) ∙ end-by last last-follows)
+        (ap (λ x. cellsFrom new-cell (forward x count) (length (cellsOf last))) (sym first-follows) ∙ end-by last last-follows)
       where
         fits : (n - over) + (count + length (cellsOf last)) ≤ 32
         fits = omega (arith, sizes, narrow-again, g .window-fits)
@@ -193,12 +193,12 @@ module _ {w c m s k n d over past count first : ℕ} {last : Last} (g : Grows w 
         some-fit = omega (arith, fits)
 
     -- ... are what the rules' grown window has left when M has passed what is too much
-    rest : window new-cell (forward m over) (n + d - over) ≡ drop over cells-all
+    rest : cellsFrom new-cell (forward m over) (n + d - over) ≡ drop over cells-all
     rest =
-        window-again
+        cells-from-again
         ∙ sym (drop-append over cells (replicate k (missing t) ++ cellsOf last)
-        ∙ ap₂ {C = List (Cell ℕ)} (λ x y. x ++ y) (drop-window (cellAt W H K) over m n (g .m-ring))
-        (ap (λ j. drop j (replicate k (missing t) ++ cellsOf last)) (ap (λ y. over - y) (length-window (cellAt W H K) m n) ∙ sym (g .past-is))
+        ∙ ap₂ {C = List (Cell ℕ)} (λ x y. x ++ y) (drop-cells-from (cellAt W H K) over m n (g .m-ring))
+        (ap (λ j. drop j (replicate k (missing t) ++ cellsOf last)) (ap (λ y. over - y) (length-cells-from (cellAt W H K) m n) ∙ sym (g .past-is))
         ∙ drop-append-le past (replicate k (missing t)) (cellsOf last) (simp length-replicate past-few)
         ∙ ap (λ l. l ++ cellsOf last) (drop-replicate past k (missing t) ∙ ap (λ y. replicate y (missing t)) (sym (g .count-is)))))
 
@@ -208,17 +208,17 @@ module _ {w c m s k n d over past count first : ℕ} {last : Last} (g : Grows w 
         ap waiting (take-append over cells (replicate k (missing t) ++ cellsOf last))
         ∙ waiting-append (take over cells) _
         ∙ ap₂ {C = List ℕ} (λ x y. x ++ y)
-        (ap waiting (take-window (cellAt W H K) over m n ∙ ap (λ j. window (cellAt W H K) m (over - j)) (sym (g .past-is)))
-        ∙ waiting-window W H K m (over - past))
+        (ap waiting (take-cells-from (cellAt W H K) over m n ∙ ap (λ j. cellsFrom (cellAt W H K) m (over - j)) (sym (g .past-is)))
+        ∙ waiting-cells-from W H K m (over - past))
         (ap (λ j. waiting (take j (replicate k (missing t) ++ cellsOf last)))
-        (ap (λ y. over - y) (length-window (cellAt W H K) m n) ∙ sym (g .past-is))
+        (ap (λ y. over - y) (length-cells-from (cellAt W H K) m n) ∙ sym (g .past-is))
         ∙ waiting-none past k t (cellsOf last) past-few)
         ∙ append-nil handed
 
     length-all : length cells-all ≡ n + d
     length-all =
         length-append cells _
-        ∙ ap₂ (λ x y. x + y) (length-window (cellAt W H K) m n)
+        ∙ ap₂ (λ x y. x + y) (length-cells-from (cellAt W H K) m n)
         (length-append (replicate k (missing t)) (cellsOf last) ∙ ap (λ y. y + length (cellsOf last)) (length-replicate k (missing t)) ∙ sym (g .d-all))
 
     pub walk-grown : walk (wide w) m cells-all ≡ so-far handed (over - length handed) walk-again
@@ -226,18 +226,18 @@ module _ {w c m s k n d over past count first : ℕ} {last : Last} (g : Grows w 
         walk-wide w over m cells-all (g .m-ring) (rw length-all (enough w n d over (g .over-is)))
         ∙ ap₂ (λ x y. so-far x (over - length x) (walk (wide w) (forward m over) y)) gone (sym rest)
         ∙ ap (so-far handed (over - length handed))
-        (walk-narrow w (forward m over) (window new-cell (forward m over) (n + d - over))
-        (rw (length-window new-cell (forward m over) (n + d - over)) narrow-again))
+        (walk-narrow w (forward m over) (cellsFrom new-cell (forward m over) (n + d - over))
+        (rw (length-cells-from new-cell (forward m over) (n + d - over)) narrow-again))
       where
         enough : (w n d over : ℕ) → over ≡ n + d - w → over ≤ n + d - w
         enough w n d over e = omega arith
 
     -- No more goes up than waits: fewer than w of the old numbers, as M is missing, and the last.
     pub head-missing : (0 < n → getD K (m % 32) 0 ≡ 0) → headMissing cells ≡ true
-    unfolding window
+    unfolding cellsFrom
     head-missing o = by-span n o
       where
-        by-span : (n : ℕ) → (0 < n → getD K (m % 32) 0 ≡ 0) → headMissing (window (cellAt W H K) m n) ≡ true
+        by-span : (n : ℕ) → (0 < n → getD K (m % 32) 0 ≡ 0) → headMissing (cellsFrom (cellAt W H K) m n) ≡ true
         by-span zero o = refl
         by-span (suc n) o = rw (cell-missing W H K (m % 32) (o (omega arith)))
 
@@ -248,7 +248,7 @@ module _ {w c m s k n d over past count first : ℕ} {last : Last} (g : Grows w 
         let split : length (waiting cells-all) ≡ length (waiting cells) + length (waiting (replicate k (missing t) ++ cellsOf last)) =
         ap length (waiting-append cells _) ∙ length-append (waiting cells) _ in
         let old : length (waiting cells) < w =
-        waiting-fewer w cells (head-missing o) (g .window-some) (rw (length-window (cellAt W H K) m n) (g .n-fits)) in
+        waiting-fewer w cells (head-missing o) (g .window-some) (rw (length-cells-from (cellAt W H K) m n) (g .n-fits)) in
         let new : length (waiting (replicate k (missing t) ++ cellsOf last)) ≤ 1 = brought k last in
         omega (arith, length-append handed (walk-again .up))
       where
@@ -258,11 +258,11 @@ module _ {w c m s k n d over past count first : ℕ} {last : Last} (g : Grows w 
         brought zero Missing = omega arith
 
     -- What is asked for.
-    again-passed : Passed (forward m over) (window new-cell (forward m over) (n + d - over)) walk-again
-    again-passed = passed (earlier 0) (forward m over) (window new-cell (forward m over) (n + d - over)) (forward-small m over)
+    again-passed : Passed (forward m over) (cellsFrom new-cell (forward m over) (n + d - over)) walk-again
+    again-passed = passed (earlier 0) (forward m over) (cellsFrom new-cell (forward m over) (n + d - over)) (forward-small m over)
 
     again-few : passes walk-again ≤ n + d - over
-    again-few = omega (arith, again-passed .few, length-window new-cell (forward m over) (n + d - over))
+    again-few = omega (arith, again-passed .few, length-cells-from new-cell (forward m over) (n + d - over))
 
     -- M does not pass the first number that this call made missing
     again-before : 0 < count → passes walk-again ≤ n - over
@@ -272,13 +272,13 @@ module _ {w c m s k n d over past count first : ℕ} {last : Last} (g : Grows w 
         by-count zero e q = absurd (let z : ⊥ = omega arith in z)
         by-count (suc j) e q =
             let before =
-            passes-before (earlier 0) (forward m over) t (window (cellAt W H K) (forward m over) (n - over))
+            passes-before (earlier 0) (forward m over) t (cellsFrom (cellAt W H K) (forward m over) (n - over))
             (replicate j (missing t) ++ cellsOf last) (λ _. le-ltb t 0 (omega arith)) in
             let same : walk-again
-            ≡ walk (earlier 0) (forward m over) (window (cellAt W H K) (forward m over) (n - over) ++ (replicate (suc j) (missing t) ++ cellsOf last)) =
+            ≡ walk (earlier 0) (forward m over) (cellsFrom (cellAt W H K) (forward m over) (n - over) ++ (replicate (suc j) (missing t) ++ cellsOf last)) =
             ap (walk (earlier 0) (forward m over))
-            (window-again ∙ ap (λ i. window (cellAt W H K) (forward m over) (n - over) ++ (replicate i (missing t) ++ cellsOf last)) e) in
-            rw same (omega (arith, before, length-window (cellAt W H K) (forward m over) (n - over)))
+            (cells-from-again ∙ ap (λ i. cellsFrom (cellAt W H K) (forward m over) (n - over) ++ (replicate i (missing t) ++ cellsOf last)) e) in
+            rw same (omega (arith, before, length-cells-from (cellAt W H K) (forward m over) (n - over)))
 
     pub asked-grown : (r : Channel ℕ) → r .current ≡ c → asked r k (so-far handed (over - length handed) walk-again) ≡ rising first count
     asked-grown r ec =
@@ -288,8 +288,8 @@ module _ {w c m s k n d over past count first : ℕ} {last : Last} (g : Grows w 
         (ap next ec ∙ sym after-c)
         (again-passed .oldest ∙ forward-forward m over (passes walk-again))
         (ap length (again-passed .cells)
-        ∙ length-drop (passes walk-again) (window new-cell (forward m over) (n + d - over))
-        ∙ ap (λ y. y - passes walk-again) (length-window new-cell (forward m over) (n + d - over))
+        ∙ length-drop (passes walk-again) (cellsFrom new-cell (forward m over) (n + d - over))
+        ∙ ap (λ y. y - passes walk-again) (length-cells-from new-cell (forward m over) (n + d - over))
         ∙ less (n + d) over (passes walk-again))
         ∙ ap (λ x. rising (forward (next x) (over + passes walk-again - n)) (k - (over + passes walk-again - n))) ec
         ∙ by-count count refl

@@ -42,7 +42,7 @@ answered-same u v =
 pub settled : {act : Act ℕ} {time : ℕ} {before p q : Parts} {had has has′ : Buffers} {a b : Answer} → Called act time before p had has a
     → Called act time before q had has′ b → SameOutcome (ruleAt before had time act .change) p q has has′ a b
 settled {act} {time} {before} {p} {q} {had} u v =
-    let same = answered-same (u .answered) (v .answered) in
+    let same = answered-same (u .answer) (v .answer) in
     record {
       answer = same .0;
       buffers = same .1;

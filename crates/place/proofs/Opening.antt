@@ -14,7 +14,7 @@ use Rattle.ring.proofs.Sides.{Seen, sees}
 use Rattle.larq.specs.Channel as channel
 use Rattle.larq.specs.Channel.{headMissing, sound, reach, waits}
 use Rattle.larq.specs.Table.{lentEnough, notBefore}
-use Rattle.record.specs.Place.{window, cellAt, spanOf, recordOf}
+use Rattle.record.specs.Place.{cellsFrom, cellAt, spanOf, recordOf}
 use Rattle.place.specs.Call.{Parts, Buffers}
 use Rattle.record.specs.Moving.{recordIn, spanIn}
 use Rattle.place.specs.Steps.{Ready, lentAt, testsAt, IsAhead, Waits, Missing}
@@ -22,7 +22,7 @@ use Rattle.judging.specs.Judge.{Judges, RefusedBy, OpenAt, inRing, inShape}
 use Rattle.record.specs.declared.Record.{Record}
 use Rattle.judging.specs.declared.Judged.{Judged}
 use Rattle.judging.specs.declared.Judged.the-variants.{Refused, Open}
-use Rattle.record.proofs.Windows.{length-window, window-suc, cell-waits}
+use Rattle.record.proofs.Windows.{length-cells-from, cells-from-suc, cell-waits}
 use Rattle.wire.proofs.Joined.{and-left, and-right}
 use Rattle.judging.proofs.Sounds.{ring-of, sound-is}
 use Rattle.record.proofs.Sizes.{Enough, enough-of}
@@ -37,14 +37,14 @@ all-pass true true false d e = absurd (let z : ⊥ = omega arith in z)
 all-pass true true true false e = absurd (let z : ⊥ = omega arith in z)
 
 -- a window whose first number does not wait
-head-of : (w k : List ℕ) (m n : ℕ) → headMissing (window (cellAt w [] k) m n) ≡ true → 0 < n → getD k (m % 32) 0 ≡ 0
+head-of : (w k : List ℕ) (m n : ℕ) → headMissing (cellsFrom (cellAt w [] k) m n) ≡ true → 0 < n → getD k (m % 32) 0 ≡ 0
 head-of w k m n e p = by-mark (eqb (getD k (m % 32) 0) 0) refl
   where
     by-mark : (b : Bool) → eqb (getD k (m % 32) 0) 0 ≡ b → getD k (m % 32) 0 ≡ 0
     by-mark true f = eqb-true (getD k (m % 32) 0) 0 f
     by-mark false f =
-        let first : window (cellAt w [] k) m n ≡ waits (getD [] (m % 32) 0) ∷ window (cellAt w [] k) (next m) (n - 1) =
-        window-suc (cellAt w [] k) m n p ∙ rw (cell-waits w [] k (m % 32) (eqb-false (getD k (m % 32) 0) 0 f)) in
+        let first : cellsFrom (cellAt w [] k) m n ≡ waits (getD [] (m % 32) 0) ∷ cellsFrom (cellAt w [] k) (next m) (n - 1) =
+        cells-from-suc (cellAt w [] k) m n p ∙ rw (cell-waits w [] k (m % 32) (eqb-false (getD k (m % 32) 0) 0 f)) in
         absurd (false≢true (sym (ap headMissing first) ∙ e))
 
 -- What was decided of a call with these parts and buffers, this number and this time.
@@ -89,7 +89,7 @@ module _ {p : Parts} {b : Buffers} {s time : ℕ} {r : Record} (opened : Opened 
       let ring = ring-of W K (in-shape .0) in
       let n = spanOf (getD W 0 0) (getD W 1 0) in
       let span : spanIn r ≡ n = ap₂ spanOf (opened .at .current) (opened .at .oldest) in
-      let cells = window (cellAt W [] K) (getD W 1 0) n in
+      let cells = cellsFrom (cellAt W [] K) (getD W 1 0) n in
       let fits : length cells ≤ 32 = leb-true (length cells) 32 (and-left (leb (length cells) 32) _ (in-shape .1)) in
       let rest = and-right (leb (length cells) 32) _ (in-shape .1) in
       record {
@@ -97,7 +97,7 @@ module _ {p : Parts} {b : Buffers} {s time : ℕ} {r : Record} (opened : Opened 
         held = held;
         current = rw (opened .at .current) (ring .0);
         oldest = rw (opened .at .oldest) (ring .1);
-        narrow = omega (arith, span, length-window (cellAt W [] K) (getD W 1 0) n);
+        narrow = omega (arith, span, length-cells-from (cellAt W [] K) (getD W 1 0) n);
         head = λ q.
             ap (λ x. getD K (x % 32) 0) (opened .at .oldest)
             ∙ head-of W K (getD W 1 0) n (and-left (headMissing cells) _ rest) (rw span at q);

@@ -11,7 +11,7 @@ use Rattle.ring.specs.Ring.{size, forward}
 use Rattle.larq.specs.Channel.{Cell}
 use Rattle.larq.specs.Settling.{walk}
 use Rattle.larq.specs.Events.{moved, taken}
-use Rattle.record.specs.Place.{window, cellAt, spanOf, recordWith, recordOf}
+use Rattle.record.specs.Place.{cellsFrom, cellAt, spanOf, recordWith, recordOf}
 use Rattle.record.specs.Moving.{spanIn, headed, storedIn}
 use Rattle.record.specs.Walk.{earlier, passes, Settles, settleNumbers}
 use Rattle.record.proofs.Settling.{settles-all}
@@ -21,7 +21,7 @@ use Rattle.record.specs.declared.Record.{Record}
 use Rattle.stepping.specs.declared.Counts.{Counts}
 use Rattle.record.specs.declared.window.Settled.{Settled}
 use Rattle.record.proofs.Rounds.{span-passed}
-use Rattle.record.proofs.Windows.{drop-window, length-window, window-same}
+use Rattle.record.proofs.Windows.{drop-cells-from, length-cells-from, cells-from-same}
 use Rattle.record.proofs.Walks.{Passed, passed}
 
 -- a place has the words in which its record is laid down
@@ -55,7 +55,7 @@ module _ (w h k : List ℕ) (c m t : ℕ) (sized : 2 < length w) where
   record-headed =
       rw (at-current, at-oldest, at-latest)
       (ap (λ cs. record { current = c; oldest = m; latest = t; cells = cs })
-      (window-same (cellAt (headed w c m t) h k) (cellAt w h k) m (spanOf c m) (λ j p. rw (at-times ((m + j) % 32)))))
+      (cells-from-same (cellAt (headed w c m t) h k) (cellAt w h k) m (spanOf c m) (λ j p. rw (at-times ((m + j) % 32)))))
 
 -- only the latest time is laid down
 pub record-taken : (w h k : List ℕ) (t : ℕ) → 2 < length w → recordOf (set w 2 t) h k ≡ taken (recordOf w h k) t
@@ -64,21 +64,21 @@ record-taken w h k t sized =
     let times : (i : ℕ) → getD (set w 2 t) (3 + i) 0 ≡ getD w (3 + i) 0 = λ i. getD-set-other w 2 (3 + i) t 0 (λ e. omega arith) in
     rw (getD-set-other w 2 0 t 0 (λ e. omega arith), getD-set-other w 2 1 t 0 (λ e. omega arith), getD-set-same w 2 t 0 sized)
     (ap (λ cs. record { current = getD w 0 0; oldest = getD w 1 0; latest = t; cells = cs })
-    (window-same (cellAt (set w 2 t) h k) (cellAt w h k) (getD w 1 0) (spanOf (getD w 0 0) (getD w 1 0)) (λ j p. rw (times ((getD w 1 0 + j) % 32)))))
+    (cells-from-same (cellAt (set w 2 t) h k) (cellAt w h k) (getD w 1 0) (spanOf (getD w 0 0) (getD w 1 0)) (λ j p. rw (times ((getD w 1 0 + j) % 32)))))
 
 -- the cells that a walk leaves are the window from the new M on
-pub walk-window : (givesUp : ℕ → ℕ → Bool) (f : ℕ → Cell ℕ) (c m : ℕ) → m < size
-    → walk givesUp m (window f m (spanOf c m)) .cells
-    ≡ window f (walk givesUp m (window f m (spanOf c m)) .oldest) (spanOf c (walk givesUp m (window f m (spanOf c m)) .oldest))
-walk-window givesUp f c m ring =
+pub walk-cells-from : (givesUp : ℕ → ℕ → Bool) (f : ℕ → Cell ℕ) (c m : ℕ) → m < size
+    → walk givesUp m (cellsFrom f m (spanOf c m)) .cells
+    ≡ cellsFrom f (walk givesUp m (cellsFrom f m (spanOf c m)) .oldest) (spanOf c (walk givesUp m (cellsFrom f m (spanOf c m)) .oldest))
+walk-cells-from givesUp f c m ring =
     let n = spanOf c m in
-    let p = walk givesUp m (window f m n) in
-    let q : Passed m (window f m n) p = passed givesUp m (window f m n) ring in
-    let few : passes p ≤ n = omega (arith, q .few, length-window f m n) in
+    let p = walk givesUp m (cellsFrom f m n) in
+    let q : Passed m (cellsFrom f m n) p = passed givesUp m (cellsFrom f m n) ring in
+    let few : passes p ≤ n = omega (arith, q .few, length-cells-from f m n) in
     q .cells
-    ∙ drop-window f (passes p) m n ring
-    ∙ ap (window f (forward m (passes p))) (sym (span-passed c m (passes p) few))
-    ∙ sym (ap (λ x. window f x (spanOf c x)) (q .oldest))
+    ∙ drop-cells-from f (passes p) m n ring
+    ∙ ap (cellsFrom f (forward m (passes p))) (sym (span-passed c m (passes p) few))
+    ∙ sym (ap (λ x. cellsFrom f x (spanOf c x)) (q .oldest))
 
 -- the parts are those of a place, and what M passes has room: it walks over the whole window
 pub walked : {r : Record} {until : ℕ} {w h k : List ℕ} {at : ℕ} {before after : List ℕ} {s : Settled} → Sized w h k
@@ -96,13 +96,13 @@ settled-record r until w h k at before after s sized ring e =
     record-headed w h k (s .kept .current .0) (s .kept .oldest .0) (s .kept .latest) sized
     ∙ rw (e .current, e .oldest, e .latest)
     (ap (λ cs. record { current = r .current .0; oldest = walkOf r until w h k .oldest; latest = r .latest; cells = cs })
-    (sym (walk-window (earlier until) (cellAt w h k) (r .current .0) (r .oldest .0) ring)))
+    (sym (walk-cells-from (earlier until) (cellAt w h k) (r .current .0) (r .oldest .0) ring)))
 
 -- M passes no more numbers than there are
 pub passed-few : (r : Record) (until : ℕ) (w h k : List ℕ) → r .oldest .0 < size → passedOf r until w h k ≤ spanIn r
 passed-few r until w h k ring =
-    let cells = window (cellAt w h k) (r .oldest .0) (spanIn r) in
-    omega (arith, passed (earlier until) (r .oldest .0) cells ring .few, length-window (cellAt w h k) (r .oldest .0) (spanIn r))
+    let cells = cellsFrom (cellAt w h k) (r .oldest .0) (spanIn r) in
+    omega (arith, passed (earlier until) (r .oldest .0) cells ring .few, length-cells-from (cellAt w h k) (r .oldest .0) (spanIn r))
 
 -- M has settled in a place, where it has room, and the record is laid down
 pub finished : {r : Record} {had : Counts} {w h k before after w′ : List ℕ} {s : Settled} → Sized w h k → Roomy r had w h k before

@@ -9,14 +9,14 @@ use Rattle.larq.specs.Channel.{waiting}
 use Rattle.larq.specs.Events.{restarted, opened}
 use Rattle.record.specs.Place.{cellAt, spanOf, recordWith, recordOf}
 use Rattle.record.specs.Buffers.{Wrote, Laid}
-use Rattle.place.specs.Call.{Says, parts, buffers, Did}
+use Rattle.place.specs.Call.{Says, parts, buffers, DidAt}
 use Rattle.record.specs.Walk.{waitingOf, handNumbers}
 use Rattle.place.specs.Steps.{Ready}
 use Rattle.record.specs.Moving.{recordIn, spanIn, headed}
 use Rattle.place.specs.declared.Answer.{Answer}
 use Rattle.record.specs.declared.Record.{Record}
-use Rattle.record.proofs.Windows.{window-none}
-use Rattle.record.proofs.Waiting.{waiting-window, waiting-short, hands-all}
+use Rattle.record.proofs.Windows.{cells-from-none}
+use Rattle.record.proofs.Waiting.{waiting-cells-from, waiting-short, hands-all}
 use Rattle.record.proofs.Laying.{wrote-front, wrote-none, wrote-one}
 use Rattle.place.proofs.Places.{record-headed}
 
@@ -29,7 +29,7 @@ unfolding recordWith
 record-opened w h k s t l =
     record-headed w h k s (next s) t l
     ∙ ap (λ cs. record { current = s; oldest = next s; latest = t; cells = cs })
-    (window-none (cellAt w h k) (next s) (spanOf s (next s)) (no-span s))
+    (cells-from-none (cellAt w h k) (next s) (spanOf s (next s)) (no-span s))
 
 module _ {r : Record} {W H K : List ℕ} (is-ready : Ready r W H K) where
   -- every waiting handle of the record stands in the buffer
@@ -37,17 +37,17 @@ module _ {r : Record} {W H K : List ℕ} (is-ready : Ready r W H K) where
       → Wrote (waiting (recordIn r W H K .cells)) B b end
   unfolding recordWith
   wrote-waiting {n} {B} e laid room =
-      rw (waiting-window W H K (r .oldest .0) (spanIn r), ← e)
+      rw (waiting-cells-from W H K (r .oldest .0) (spanIn r), ← e)
       (wrote-front (hands-all H K (r .oldest .0) n (is-ready .sized .handles) (is-ready .sized .marks) (omega (arith, is-ready .narrow)) laid)
       (omega (arith, waiting-short H K (r .oldest .0) n, is-ready .narrow)))
 
   pub restarted-did : {n s x t : ℕ} {w U u B b : List ℕ} {end : ℕ} {a : Answer} → n ≡ spanIn r → Laid (waitingOf H K (r .oldest .0) (handNumbers H K n B)) 0 B b end
       → 32 ≤ length U → 32 ≤ length B → w ≡ headed W s (next s) t → u ≡ set U 0 x → Says 0 1 0 0 0 a
-      → Did (restarted (recordIn r W H K) t s x) (parts W H K) (parts w H K) (buffers U B []) (buffers u b [])
+      → DidAt (restarted (recordIn r W H K) t s x) (parts W H K) (parts w H K) (buffers U B []) (buffers u b [])
       (record { number = a .number; up = a .up; returned = end; nack = a .nack; lost = a .lost })
   restarted-did {s = s} {x = x} {t = t} {U = U} e laid room-up room-returned ew eu says =
       record {
-        answered = record {
+        answer = record {
           number = says .number;
           up = rw (eu, says .up) (wrote-one U x (omega arith));
           returned = wrote-waiting e laid room-returned;

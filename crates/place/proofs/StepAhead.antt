@@ -12,8 +12,8 @@ use Rattle.larq.specs.Channel as channel
 use Rattle.larq.specs.Settling.{Walked, walk, wide}
 use Rattle.larq.specs.Answer.{accepted, holds}
 use Rattle.larq.specs.Events.{ahead, settledAt, moved}
-use Rattle.record.specs.Place.{window, cellAt, recordWith}
-use Rattle.place.specs.Call.{Did, parts, buffers}
+use Rattle.record.specs.Place.{cellsFrom, cellAt, recordWith}
+use Rattle.place.specs.Call.{DidAt, parts, buffers}
 use Rattle.record.specs.Buffers.{Laid}
 use Rattle.record.specs.Walk.{earlier, waitingOf, Settles, settleNumbers}
 use Rattle.stepping.specs.Step.{Missed, stamped, Widened, Widens}
@@ -130,7 +130,7 @@ module _ {r : Record} {W H K U N w₁ k₁ u₁ q₁ : List ℕ} {s k t : ℕ} {
     walk-to : walkOf (to .kept) 0 w₁ h₂ k₂ ≡ again
     walk-to =
         rw (is .current, is .oldest, missed .words, handles-are, marks-all)
-        (ap (λ x. walk (earlier 0) (forward m (to .over)) (window (new-cell grows W H K (ready .sized) t) (forward m (to .over)) x)) (span-again grows))
+        (ap (λ x. walk (earlier 0) (forward m (to .over)) (cellsFrom (new-cell grows W H K (ready .sized) t) (forward m (to .over)) x)) (span-again grows))
 
     up-to : length (walkOf (to .kept) 0 w₁ h₂ k₂ .up) ≡ length (again .up)
     up-to = ap (λ p. length (p .up)) walk-to
@@ -139,7 +139,7 @@ module _ {r : Record} {W H K U N w₁ k₁ u₁ q₁ : List ℕ} {s k t : ℕ} {
     up-few = rw (← handed-is) at (up-room grows W H K (ready .sized) t head)
 
     none-lost : walkOf (to .kept) 0 w₁ h₂ k₂ .lost ≡ 0
-    none-lost = never-lost (to .kept .oldest .0) (window (cellAt w₁ h₂ k₂) (to .kept .oldest .0) (spanIn (to .kept)))
+    none-lost = never-lost (to .kept .oldest .0) (cellsFrom (cellAt w₁ h₂ k₂) (to .kept .oldest .0) (spanIn (to .kept)))
 
     pub settle-room : Roomy (to .kept) (p .had) w₁ h₂ k₂ u₁
     settle-room =
@@ -163,12 +163,12 @@ module _ {r : Record} {W H K U N w₁ k₁ u₁ q₁ : List ℕ} {s k t : ℕ} {
     gone-few settles sized = omega (arith, walked sized (settle-room .room) settles .up .end-is, wide .handed .end-is, up-to, up-few)
 
     pub ahead-did : {w₂ u₂ : List ℕ} {has : Counts} → Finished (to .kept) (parts w₁ h₂ k₂) (p .had) u₁ w₂ u₂ has
-        → Did (ahead channel.window (recordIn r W H K) t s k (cellsOf last)) (parts W H K) (parts w₂ h₂ k₂) (buffers U [] N) (buffers u₂ [] q₁) (answerOf has)
+        → DidAt (ahead channel.window (recordIn r W H K) t s k (cellsOf last)) (parts W H K) (parts w₂ h₂ k₂) (buffers U [] N) (buffers u₂ [] q₁) (answerOf has)
     ahead-did {u₂ = u₂} {has = has} f =
         let all : Laid (handed ++ again .up) 0 U u₂ (has .up) = laid-laid (wide .handed) (rw walk-to at (f .up)) in
         rw rule-ahead
         (record {
-          answered = record {
+          answer = record {
             number = refl;
             up = wrote-front all (omega (arith, length-append handed (again .up), up-few));
             returned = wrote-none [];

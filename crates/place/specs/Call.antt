@@ -72,11 +72,11 @@ abbrev pub ruleAt : Parts → Buffers → ℕ → Act ℕ → Outcome ℕ
 ruleAt p b time act = one window true (recordOf (p .words) (p .handles) (p .marks) ∷ []) (eventAt p b time act)
 
 -- a call does what an outcome says: the answer, the buffers and the place
-pub record Did (rule : Outcome ℕ) (before after : Parts) (had has : Buffers) (given : Answer) : Type 0 where
-  pub answered : Answered rule had has given
+pub record DidAt (rule : Outcome ℕ) (before after : Parts) (had has : Buffers) (given : Answer) : Type 0 where
+  pub answer : Answered rule had has given
   pub became : Became (rule .change) before after
 
 -- a call on an open place
 pub record Called (act : Act ℕ) (time : ℕ) (before after : Parts) (had has : Buffers) (given : Answer) : Type 0 where
-  pub answered : Answered (ruleAt before had time act) had has given
+  pub answer : Answered (ruleAt before had time act) had has given
   pub became : Became (ruleAt before had time act .change) before after

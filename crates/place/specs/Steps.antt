@@ -15,7 +15,7 @@ use Rattle.larq.specs.Table.{Lent, notFar}
 use Rattle.record.specs.Place.{recordOf}
 use Rattle.record.specs.Buffers.{Laid}
 use Rattle.record.specs.Moving.{recordIn, spanIn}
-use Rattle.record.specs.Place.{lentOf}
+use Rattle.record.specs.Place.{placeLent}
 use Rattle.judging.specs.Judge.{common}
 use Rattle.record.specs.declared.Record.{Record}
 use Rattle.record.specs.Walk.{passes, walkFrom}
@@ -41,7 +41,7 @@ pub record Ready (r : Record) (w h k : List ℕ) : Type 0 where
 -- what is lent for a call, and the tests that every event has, of its parts and buffers
 abbrev pub lentAt : Parts → Buffers → Lent
 lentAt p b =
-    lentOf (length (p .words)) (length (p .handles)) (length (p .marks)) (length (b .up)) (length (b .returned)) (length (b .nack))
+    placeLent (length (p .words)) (length (p .handles)) (length (p .marks)) (length (b .up)) (length (b .returned)) (length (b .nack))
 
 abbrev pub testsAt : Parts → Buffers → ℕ → ℕ → List Refusal
 testsAt p b s time = common (lentAt p b) s time (recordOf (p .words) [] (p .marks))

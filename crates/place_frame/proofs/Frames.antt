@@ -10,19 +10,19 @@ use Rattle.larq.specs.Channel.{waits, reach, Channel}
 use Rattle.larq.specs.Settling.{walk, wide}
 use Rattle.larq.specs.Answer.{accepted, holds}
 use Rattle.larq.specs.Events.{frame, act-on, data-on, ahead, restarted, opened, asked, settledAt, taken}
-use Rattle.record.specs.Place.{window, cellAt, spanOf, recordWith}
-use Rattle.place.specs.Call.{Parts, Buffers, parts, buffers, Says, Did, Called}
+use Rattle.record.specs.Place.{cellsFrom, cellAt, spanOf, recordWith}
+use Rattle.place.specs.Call.{Parts, Buffers, parts, buffers, Says, DidAt, Called}
 use Rattle.record.specs.Moving.{recordIn, spanIn, headed}
 use Rattle.place.specs.Steps.{Ready, answerOf, filledAt, dataAt}
-use Rattle.judging.specs.Judge.{NextAt, MissingAt, KnownAt}
+use Rattle.judging.specs.Judge.{NextAt, MissingAt, UnwantedAt}
 use Rattle.place.specs.declared.Answer.{Answer}
 use Rattle.stepping.specs.declared.Counts.{Counts}
 use Rattle.record.specs.declared.Record.{Record}
-use Rattle.record.proofs.Windows.{window-none}
+use Rattle.record.proofs.Windows.{cells-from-none}
 use Rattle.record.proofs.Laying.{wrote-none, wrote-one}
 use Rattle.place.proofs.Places.{record-taken}
 use Rattle.place.proofs.Opening.{Opened, ready, ahead-by-one}
-use Rattle.place_frame.proofs.StepBehind.{rule-known}
+use Rattle.place_frame.proofs.StepBehind.{rule-unwanted}
 use Rattle.place.proofs.Restarting.{record-opened}
 use Rattle.place.proofs.Calling.{did-as, did-returned, did-nack, called-opened}
 
@@ -40,7 +40,7 @@ module _ {r : Record} {W H K : List ℕ} (s x t : ℕ) (is-ready : Ready r W H K
   rule-next ring at =
       rule-by (at .is)
       ∙ ap (λ cs. settledAt c t s 0 (walk (wide channel.window) (r .oldest .0) (cs ++ (waits x ∷ []))))
-      (window-none (cellAt W H K) (r .oldest .0) (spanIn r) (at .none))
+      (cells-from-none (cellAt W H K) (r .oldest .0) (spanIn r) (at .none))
       ∙ ap (λ m. accepted (x ∷ []) [] [] 0 (holds (record { current = s; oldest = next m; latest = t; cells = [] }))) oldest-is
     where
       follows : (c m : ℕ) → m < 4096 → spanOf c m ≡ 0 → steps c s ≡ 1 → m ≡ s
@@ -50,11 +50,11 @@ module _ {r : Record} {W H K : List ℕ} (s x t : ℕ) (is-ready : Ready r W H K
       oldest-is = follows (r .current .0) (r .oldest .0) (is-ready .oldest) (at .none) (ahead-by-one (r .current .0) s (at .is))
 
   pub frame-next : {w u : List ℕ} {a : Answer} (U B N : List ℕ) → s < 4096 → NextAt r s → 0 < length U → w ≡ headed W s (next s) t → u ≡ set U 0 x
-      → Says 0 1 0 0 0 a → Did (dataAt c t s x) (parts W H K) (parts w H K) (buffers U B N) (buffers u B N) a
+      → Says 0 1 0 0 0 a → DidAt (dataAt c t s x) (parts W H K) (parts w H K) (buffers U B N) (buffers u B N) a
   frame-next U B N ring at room ew eu says =
       did-as (rule-next ring at)
       (record {
-        answered = record {
+        answer = record {
           number = says .number;
           up = rw (eu, says .up) (wrote-one U x room);
           returned = rw (says .returned) (wrote-none B);
@@ -65,28 +65,28 @@ module _ {r : Record} {W H K : List ℕ} (s x t : ℕ) (is-ready : Ready r W H K
       })
 
   pub frame-ahead : {d : ℕ} {after : Parts} {U u N n : List ℕ} {k : Counts} {a : Answer} (B : List ℕ) → seen (reach channel.window) (r .current .0) s ≡ Ahead d
-      → Did (ahead channel.window c t s (d - 1) (waits x ∷ [])) (parts W H K) after (buffers U [] N) (buffers u [] n) (answerOf k)
-      → a ≡ answerOf k → Did (dataAt c t s x) (parts W H K) after (buffers U B N) (buffers u B n) a
+      → DidAt (ahead channel.window c t s (d - 1) (waits x ∷ [])) (parts W H K) after (buffers U [] N) (buffers u [] n) (answerOf k)
+      → a ≡ answerOf k → DidAt (dataAt c t s x) (parts W H K) after (buffers U B N) (buffers u B n) a
   frame-ahead B is did e = rw e (did-as (rule-by is) (did-returned B did))
 
   pub frame-missing : {after : Parts} {U u : List ℕ} {k : Counts} {a : Answer} (B N : List ℕ) → MissingAt r K s
-      → Did (filledAt c t s x) (parts W H K) after (buffers U [] []) (buffers u [] []) (answerOf k)
-      → a ≡ answerOf k → Did (dataAt c t s x) (parts W H K) after (buffers U B N) (buffers u B N) a
+      → DidAt (filledAt c t s x) (parts W H K) after (buffers U [] []) (buffers u [] []) (answerOf k)
+      → a ≡ answerOf k → DidAt (dataAt c t s x) (parts W H K) after (buffers U B N) (buffers u B N) a
   frame-missing B N at did e = rw e (did-as (rule-by (at .behind .is)) (did-nack N (did-returned B did)))
 
   pub frame-far : {after : Parts} {U u B b : List ℕ} {a : Answer} (N : List ℕ) → seen (reach channel.window) (r .current .0) s ≡ Far
-      → Did (restarted c t s x) (parts W H K) after (buffers U B []) (buffers u b []) a
-      → Did (dataAt c t s x) (parts W H K) after (buffers U B N) (buffers u b N) a
+      → DidAt (restarted c t s x) (parts W H K) after (buffers U B []) (buffers u b []) a
+      → DidAt (dataAt c t s x) (parts W H K) after (buffers U B N) (buffers u b N) a
   frame-far N is did = did-as (rule-by is) (did-nack N did)
 
   -- the handle comes back, and the latest time is laid down
-  pub frame-known : {w b : List ℕ} {a : Answer} (U B N : List ℕ) → KnownAt r K s → 0 < length B → w ≡ set W 2 t → b ≡ set B 0 x
-      → Says 0 0 1 0 0 a → Did (dataAt c t s x) (parts W H K) (parts w H K) (buffers U B N) (buffers U b N) a
-  frame-known U B N at room ew eb says =
+  pub frame-unwanted : {w b : List ℕ} {a : Answer} (U B N : List ℕ) → UnwantedAt r K s → 0 < length B → w ≡ set W 2 t → b ≡ set B 0 x
+      → Says 0 0 1 0 0 a → DidAt (dataAt c t s x) (parts W H K) (parts w H K) (buffers U B N) (buffers U b N) a
+  frame-unwanted U B N at room ew eb says =
       did-as
-      (rule-by (at .behind .is) ∙ rule-known is-ready s x t at ∙ ap (λ y. accepted [] (x ∷ []) [] 0 (holds (taken y t))) (is-ready .held))
+      (rule-by (at .behind .is) ∙ rule-unwanted is-ready s x t at ∙ ap (λ y. accepted [] (x ∷ []) [] 0 (holds (taken y t))) (is-ready .held))
       (record {
-        answered = record {
+        answer = record {
           number = says .number;
           up = rw (says .up) (wrote-none U);
           returned = rw (eb, says .returned) (wrote-one B x room);
@@ -98,7 +98,7 @@ module _ {r : Record} {W H K : List ℕ} (s x t : ℕ) (is-ready : Ready r W H K
 
 -- a frame that no number refuses
 pub called-frame : {p after : Parts} {b has : Buffers} {s time : ℕ} {r : Record} {a : Answer} (x : ℕ) → Opened p b s time r
-    → Did (dataAt (recordIn r (p .words) (p .handles) (p .marks)) time s x) p after b has a → Called (frame s x) time p after b has a
+    → DidAt (dataAt (recordIn r (p .words) (p .handles) (p .marks)) time s x) p after b has a → Called (frame s x) time p after b has a
 unfolding act-on
 called-frame {s = s} {time = time} x opened did =
     called-opened (frame s x) refl opened (ap (λ y. dataAt y time s x) (sym (ready opened .held))) did

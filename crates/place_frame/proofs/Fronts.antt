@@ -9,7 +9,7 @@ use lib.Seq.{length-take-le, drop-append-le}
 use borrow.Rule.Slice.PartMut.{midOf, putMid}
 use Rattle.larq.specs.Answer.{Outcome}
 use Rattle.record.specs.Buffers.{Wrote}
-use Rattle.place.specs.Call.{Parts, buffers, Did}
+use Rattle.place.specs.Call.{Parts, buffers, DidAt}
 use Rattle.place.specs.declared.Answer.{Answer}
 
 abbrev pub front : List ℕ → List ℕ
@@ -33,16 +33,16 @@ front-wrote list b y n room sized w =
 
 -- a call that was lent the fronts of the first two buffers
 pub front-did : {rule : Outcome ℕ} {before after : Parts} {U R N u r n : List ℕ} {a : Answer} → 32 ≤ length U → 32 ≤ length R
-    → length u ≡ length (front U) → length r ≡ length (front R) → Did rule before after (buffers (front U) (front R) N) (buffers u r n) a
-    → Did rule before after (buffers U R N) (buffers (putMid 0 32 U u) (putMid 0 32 R r) n) a
+    → length u ≡ length (front U) → length r ≡ length (front R) → DidAt rule before after (buffers (front U) (front R) N) (buffers u r n) a
+    → DidAt rule before after (buffers U R N) (buffers (putMid 0 32 U u) (putMid 0 32 R r) n) a
 front-did {U = U} {R = R} {u = u} {r = r} up-room returned-room up-sized returned-sized did =
     record {
-      answered = record {
-        number = did .answered .number;
-        up = front-wrote _ U u _ up-room up-sized (did .answered .up);
-        returned = front-wrote _ R r _ returned-room returned-sized (did .answered .returned);
-        nack = did .answered .nack;
-        lost = did .answered .lost;
+      answer = record {
+        number = did .answer .number;
+        up = front-wrote _ U u _ up-room up-sized (did .answer .up);
+        returned = front-wrote _ R r _ returned-room returned-sized (did .answer .returned);
+        nack = did .answer .nack;
+        lost = did .answer .lost;
       };
       became = did .became;
     }

@@ -13,17 +13,17 @@ use Rattle.larq.specs.Channel.{Cell, waits, missing}
 use Rattle.larq.specs.Settling.{Walked, walk}
 use Rattle.larq.specs.Answer.{accepted, holds}
 use Rattle.larq.specs.Events.{asked, filled, settledAt, moved, taken}
-use Rattle.record.specs.Place.{window, cellAt, recordWith}
-use Rattle.place.specs.Call.{Did, parts, buffers}
+use Rattle.record.specs.Place.{cellsFrom, cellAt, recordWith}
+use Rattle.place.specs.Call.{DidAt, parts, buffers}
 use Rattle.record.specs.Walk.{earlier}
 use Rattle.record.specs.Moving.{recordIn, spanIn}
 use Rattle.stepping.specs.Step.{nothing}
 use Rattle.place.specs.Steps.{Ready, Roomy, walkOf, Finished, answerOf, filledAt}
-use Rattle.judging.specs.Judge.{MissingAt, KnownAt}
+use Rattle.judging.specs.Judge.{MissingAt, UnwantedAt}
 use Rattle.stepping.specs.declared.Counts.{Counts}
 use Rattle.record.specs.declared.Record.{Record}
 use Rattle.record.proofs.Rounds.{slot-steps}
-use Rattle.record.proofs.Windows.{length-window, window-at, window-set, cell-waits, cell-missing}
+use Rattle.record.proofs.Windows.{length-cells-from, cells-from-at, cells-from-set, cell-waits, cell-missing}
 use Rattle.record.proofs.Laying.{wrote-front, wrote-none}
 use Rattle.place.proofs.Cells.{cell-brought, cell-beside}
 use Rattle.record.proofs.Walks.{up-few, waiting-few, walk-narrow, never-lost}
@@ -40,24 +40,24 @@ module _ {r : Record} {W H K : List ℕ} (ready : Ready r W H K) (s x t : ℕ) w
   n = spanIn r
 
   abbrev cells : List (Cell ℕ)
-  cells = window (cellAt W H K) m n
+  cells = cellsFrom (cellAt W H K) m n
 
   at-steps : steps m s < n → getD cells (steps m s) (missing 0) ≡ cellAt W H K (s % 32)
-  at-steps l = window-at (cellAt W H K) m n (steps m s) (missing 0) l ∙ ap (cellAt W H K) (slot-steps m s)
+  at-steps l = cells-from-at (cellAt W H K) m n (steps m s) (missing 0) l ∙ ap (cellAt W H K) (slot-steps m s)
 
   within-cells : steps m s < n → steps m s < length cells
-  within-cells l = rw (length-window (cellAt W H K) m n) l
+  within-cells l = rw (length-cells-from (cellAt W H K) m n) l
 
   -- It waits already or lies before M.
-  pub rule-known : KnownAt r K s → filledAt (recordIn r W H K) t s x ≡ accepted [] (x ∷ []) [] 0 (holds (taken (recordIn r W H K) t))
+  pub rule-unwanted : UnwantedAt r K s → filledAt (recordIn r W H K) t s x ≡ accepted [] (x ∷ []) [] 0 (holds (taken (recordIn r W H K) t))
   unfolding recordWith
-  rule-known at =
+  rule-unwanted at =
       ap (filled channel.window (recordIn r W H K) t x)
-      (⊎-elim (λ l. filling-past cells (steps m s) x (rw (length-window (cellAt W H K) m n) l))
+      (⊎-elim (λ l. filling-past cells (steps m s) x (rw (length-cells-from (cellAt W H K) m n) l))
       (λ o.
       filling-waiting cells (steps m s) (getD H (s % 32) 0) (missing 0) x (within-cells (o .0))
       (at-steps (o .0) ∙ cell-waits W H K (s % 32) (o .1)))
-      (at .known))
+      (at .unwanted))
 
   -- It is missing, and waits from now on.
   module _ (at : MissingAt r K s) where
@@ -68,11 +68,11 @@ module _ {r : Record} {W H K : List ℕ} (ready : Ready r W H K) (s x t : ℕ) w
     K′ = set K (s % 32) 1
 
     abbrev again : Walked ℕ
-    again = walk (earlier 0) m (window (cellAt W H′ K′) m n)
+    again = walk (earlier 0) m (cellsFrom (cellAt W H′ K′) m n)
 
-    cells-filled : window (cellAt W H′ K′) m n ≡ set cells (steps m s) (waits x)
+    cells-filled : cellsFrom (cellAt W H′ K′) m n ≡ set cells (steps m s) (waits x)
     cells-filled =
-        window-set (cellAt W H K) (cellAt W H′ K′) m n (steps m s) (ready .narrow) (at .within)
+        cells-from-set (cellAt W H K) (cellAt W H′ K′) m n (steps m s) (ready .narrow) (at .within)
         (λ j o. cell-beside W H K (s % 32) x j (λ e. o (e ∙ sym (slot-steps m s))))
         ∙ ap (set cells (steps m s))
         (ap (cellAt W H′ K′) (slot-steps m s)
@@ -86,15 +86,15 @@ module _ {r : Record} {W H K : List ℕ} (ready : Ready r W H K) (s x t : ℕ) w
         (at-steps (at .within) ∙ cell-missing W H K (s % 32) (at .marked))
         ∙ ap some (sym cells-filled))
         ∙ ap (settledAt (recordIn r W H K) t c 0)
-        (walk-narrow channel.window m (window (cellAt W H′ K′) m n) (rw (length-window (cellAt W H′ K′) m n) (ready .narrow)))
+        (walk-narrow channel.window m (cellsFrom (cellAt W H′ K′) m n) (rw (length-cells-from (cellAt W H′ K′) m n) (ready .narrow)))
 
     few-up : length (again .up) ≤ 32
     few-up =
         omega (
           arith,
-          up-few (earlier 0) m (window (cellAt W H′ K′) m n),
-          waiting-few (window (cellAt W H′ K′) m n),
-          length-window (cellAt W H′ K′) m n,
+          up-few (earlier 0) m (cellsFrom (cellAt W H′ K′) m n),
+          waiting-few (cellsFrom (cellAt W H′ K′) m n),
+          length-cells-from (cellAt W H′ K′) m n,
           ready .narrow,
         )
 
@@ -105,7 +105,7 @@ module _ {r : Record} {W H K : List ℕ} (ready : Ready r W H K) (s x t : ℕ) w
       walk-to = rw (to-current, to-oldest, handles-are, marks-are)
 
       none-lost : walkOf to 0 W h k .lost ≡ 0
-      none-lost = never-lost (to .oldest .0) (window (cellAt W h k) (to .oldest .0) (spanIn to))
+      none-lost = never-lost (to .oldest .0) (cellsFrom (cellAt W h k) (to .oldest .0) (spanIn to))
 
       pub filled-room : (U : List ℕ) → 32 ≤ length U → Roomy to nothing W h k U
       filled-room U room =
@@ -116,11 +116,11 @@ module _ {r : Record} {W H K : List ℕ} (ready : Ready r W H K) (s x t : ℕ) w
           }
 
       pub filled-did : {U w u : List ℕ} {n : Counts} → Finished to (parts W h k) nothing U w u n → 32 ≤ length U
-          → Did (filledAt (recordIn r W H K) t s x) (parts W H K) (parts w h k) (buffers U [] []) (buffers u [] []) (answerOf n)
+          → DidAt (filledAt (recordIn r W H K) t s x) (parts W H K) (parts w h k) (buffers U [] []) (buffers u [] []) (answerOf n)
       filled-did f room =
           rw rule-missing
           (record {
-            answered = record {
+            answer = record {
               number = refl;
               up = wrote-front (rw walk-to at (f .up)) (omega (arith, few-up));
               returned = wrote-none [];

@@ -6,7 +6,7 @@ ghost use lib.ListN.{length, set};
 ghost use Rattle.ring.specs.Ring.{next};
 ghost use Rattle.larq.specs.Channel.{window, waits};
 ghost use Rattle.larq.specs.Events.{ahead, restarted};
-ghost use Rattle.place.specs.Call.{Did, Says, parts, buffers};
+ghost use Rattle.place.specs.Call.{DidAt, Says, parts, buffers};
 ghost use Rattle.record.specs.Moving.{recordIn, headed};
 ghost use Rattle.place.specs.Steps.{Sized, Ready, Roomy, Finished, answerOf, Waits, IsAhead, filledAt};
 ghost use Rattle.judging.specs.Judge.{MissingAt};
@@ -62,7 +62,7 @@ pub(crate) fn ahead(
     requires { ⌜ Ready r (now words) (now handles) (now marks) × (s .0 < 4096) ⌝ }
     requires { ⌜ (32 ≤ length (now up)) × (32 ≤ length (now nack)) ⌝ }
     requires { ⌜ IsAhead (r .current .0) (s .0) made (Waits handle) ⌝ }
-    ensures { λ k. ⌜ Did (ahead window (recordIn r (now (words .entry)) (now (handles .entry)) (now (marks .entry))) time (s .0) made (waits handle ∷ []))
+    ensures { λ k. ⌜ DidAt (ahead window (recordIn r (now (words .entry)) (now (handles .entry)) (now (marks .entry))) time (s .0) made (waits handle ∷ []))
         (parts (now (words .entry)) (now (handles .entry)) (now (marks .entry)))
         (parts (now (words .exit)) (now (handles .exit)) (now (marks .exit)))
         (buffers (now (up .entry)) [] (now (nack .entry)))
@@ -86,7 +86,7 @@ pub(crate) fn filled(
 ) -> Counts
     requires { ⌜ Ready r (now words) (now handles) (now marks) × MissingAt r (now marks) (s .0) ⌝ }
     requires { ⌜ 32 ≤ length (now up) ⌝ }
-    ensures { λ k. ⌜ Did (filledAt (recordIn r (now (words .entry)) (now (handles .entry)) (now (marks .entry))) time (s .0) handle)
+    ensures { λ k. ⌜ DidAt (filledAt (recordIn r (now (words .entry)) (now (handles .entry)) (now (marks .entry))) time (s .0) handle)
         (parts (now (words .entry)) (now (handles .entry)) (now (marks .entry)))
         (parts (now (words .exit)) (now (handles .exit)) (now (marks .exit)))
         (buffers (now (up .entry)) [] [])
@@ -142,7 +142,7 @@ pub(crate) fn restarted(
 ) -> Answer
     requires { ⌜ Ready r (now words) (now handles) (now marks) × (s .0 < 4096) ⌝ }
     requires { ⌜ (32 ≤ length (now up)) × (32 ≤ length (now returned)) ⌝ }
-    ensures { λ a. ⌜ Did (restarted (recordIn r (now (words .entry)) (now (handles .entry)) (now (marks .entry))) time (s .0) handle)
+    ensures { λ a. ⌜ DidAt (restarted (recordIn r (now (words .entry)) (now (handles .entry)) (now (marks .entry))) time (s .0) handle)
         (parts (now (words .entry)) (now (handles .entry)) (now (marks .entry)))
         (parts (now (words .exit)) (now (handles .entry)) (now (marks .entry)))
         (buffers (now (up .entry)) (now (returned .entry)) [])

@@ -2,7 +2,7 @@
 ghost use Prim.Native.Nat.{_≤_, _<_};
 ghost use lib.ListN.{length};
 ghost use Rattle.larq.specs.Events.{frame};
-ghost use Rattle.place.specs.Call.{Did, Called, parts, buffers};
+ghost use Rattle.place.specs.Call.{DidAt, Called, parts, buffers};
 ghost use Rattle.record.specs.Moving.{recordIn};
 ghost use Rattle.place.specs.Steps.{Ready, dataAt};
 
@@ -86,7 +86,7 @@ fn arrive(
 ) -> Answer
     requires { ⌜ Ready r (now words) (now handles) (now marks) × (s .0 < 4096) ⌝ }
     requires { ⌜ (32 ≤ length (now up)) × (32 ≤ length (now returned)) × (32 ≤ length (now nack)) ⌝ }
-    ensures { λ a. ⌜ Did (dataAt (recordIn r (now (words .entry)) (now (handles .entry)) (now (marks .entry))) time (s .0) handle)
+    ensures { λ a. ⌜ DidAt (dataAt (recordIn r (now (words .entry)) (now (handles .entry)) (now (marks .entry))) time (s .0) handle)
         (parts (now (words .entry)) (now (handles .entry)) (now (marks .entry)))
         (parts (now (words .exit)) (now (handles .exit)) (now (marks .exit)))
         (buffers (now (up .entry)) (now (returned .entry)) (now (nack .entry)))
@@ -107,7 +107,7 @@ fn arrive(
         )),
         Spot::Next => handed_up(words, up, s, handle, time),
         Spot::Missing => accepted(filled(r, words, handles, marks, up, s, handle, time)),
-        Spot::Known => sent_back(words, returned, handle, time),
+        Spot::Unwanted => sent_back(words, returned, handle, time),
         Spot::Far => restarted(r, words, handles, marks, up, returned, s, handle, time),
     }
 }

@@ -10,7 +10,7 @@ use Rattle.record.specs.Walk.{waitingOf, handNumbers}
 use Rattle.record.specs.Moving.{recordIn, spanIn}
 use Rattle.record.specs.declared.Record.{Record}
 use Rattle.record.proofs.Laying.{wrote-none, wrote-idle}
-use Rattle.place.specs.Call.{Parts, Buffers, parts, buffers, Did, Called}
+use Rattle.place.specs.Call.{Parts, Buffers, parts, buffers, DidAt, Called}
 use Rattle.place.specs.Steps.{Ready}
 use Rattle.place.specs.declared.Answer.{Answer}
 use Rattle.place.proofs.Restarting.{wrote-waiting}
@@ -21,11 +21,11 @@ use Rattle.place.proofs.Calling.{did-nack, called-opened}
 module _ {r : Record} {W H K : List ℕ} (is-ready : Ready r W H K) where
   pub closed-did : {n : ℕ} {w h k B b : List ℕ} {end : ℕ} → n ≡ spanIn r → Laid (waitingOf H K (r .oldest .0) (handNumbers H K n B)) 0 B b end
       → 32 ≤ length B → w ≡ replicate (length W) 0 → h ≡ replicate (length H) 0 → k ≡ replicate (length K) 0
-      → Did (close-on (recordIn r W H K)) (parts W H K) (parts w h k) (buffers [] B []) (buffers [] b [])
+      → DidAt (close-on (recordIn r W H K)) (parts W H K) (parts w h k) (buffers [] B []) (buffers [] b [])
       (record { number = 0; up = 0; returned = end; nack = 0; lost = 0 })
   closed-did {n} {w} {h} {k} {B} {b} {end} e laid room ew eh ek =
       record {
-        answered = record {
+        answer = record {
           number = refl;
           up = wrote-none [];
           returned = wrote-waiting is-ready e laid room;
@@ -37,16 +37,16 @@ module _ {r : Record} {W H K : List ℕ} (is-ready : Ready r W H K) where
 
 -- a close that no number refuses; the buffer for what goes up stays as it is
 did-up : {o : Outcome ℕ} {before after : Parts} {a : Answer} {B b N n : List ℕ} (U : List ℕ)
-    → Did o before after (buffers [] B N) (buffers [] b n) a → Did o before after (buffers U B N) (buffers U b n) a
+    → DidAt o before after (buffers [] B N) (buffers [] b n) a → DidAt o before after (buffers U B N) (buffers U b n) a
 did-up U d =
-    let x = d .answered in
+    let x = d .answer in
     record {
-      answered = record { number = x .number; up = wrote-idle _ U _ (x .up); returned = x .returned; nack = x .nack; lost = x .lost };
+      answer = record { number = x .number; up = wrote-idle _ U _ (x .up); returned = x .returned; nack = x .nack; lost = x .lost };
       became = d .became;
     }
 
 pub called-close : {p after : Parts} {b : Buffers} {time : ℕ} {r : Record} {v : List ℕ} {a : Answer} → Opened p b 0 time r
-    → Did (close-on (recordIn r (p .words) (p .handles) (p .marks))) p after (buffers [] (b .returned) []) (buffers [] v []) a
+    → DidAt (close-on (recordIn r (p .words) (p .handles) (p .marks))) p after (buffers [] (b .returned) []) (buffers [] v []) a
     → Called close time p after b (buffers (b .up) v (b .nack)) a
 unfolding act-on
 called-close {b = b} opened did =

@@ -8,15 +8,15 @@ use lib.ListN.{length}
 use Rattle.larq.specs.Channel.{Cell}
 use Rattle.larq.specs.Settling.{Walked, walk, hold, stale}
 use Rattle.larq.specs.Events.{tick, act-on, tick-on, asked, moved}
-use Rattle.record.specs.Place.{window, cellAt, spanOf, recordWith, recordOf}
+use Rattle.record.specs.Place.{cellsFrom, cellAt, spanOf, recordWith, recordOf}
 use Rattle.record.specs.Moving.{recordIn, spanIn, storedIn}
 use Rattle.record.specs.Walk.{Settles, settleNumbers}
 use Rattle.record.specs.declared.Record.{Record}
 use Rattle.record.specs.declared.window.Settled.{Settled}
-use Rattle.record.proofs.Windows.{length-window}
+use Rattle.record.proofs.Windows.{length-cells-from}
 use Rattle.record.proofs.Laying.{wrote-front, wrote-none}
 use Rattle.record.proofs.Walks.{up-few, waiting-few, walk-stale}
-use Rattle.place.specs.Call.{Parts, Buffers, parts, buffers, Did, Called}
+use Rattle.place.specs.Call.{Parts, Buffers, parts, buffers, DidAt, Called}
 use Rattle.place.specs.Steps.{Ready, walkOf, passedOf}
 use Rattle.place.specs.declared.Answer.{Answer}
 use Rattle.place.proofs.Places.{walked, stored-headed, settled-record, passed-few}
@@ -27,7 +27,7 @@ use Rattle.place.proofs.Calling.{did-returned, did-nack, called-opened}
 module _ {r to : Record} {W H K : List ℕ} {until : ℕ} (is-ready : Ready r W H K) (t : ℕ) (stale-before : until ≡ t + 1 - hold)
     (to-current : to .current .0 ≡ r .current .0) (to-oldest : to .oldest .0 ≡ r .oldest .0) (to-latest : to .latest ≡ t) where
   abbrev cells : List (Cell ℕ)
-  cells = window (cellAt W H K) (r .oldest .0) (spanIn r)
+  cells = cellsFrom (cellAt W H K) (r .oldest .0) (spanIn r)
 
   abbrev passed : Walked ℕ
   passed = walk (stale t) (r .oldest .0) cells
@@ -38,7 +38,7 @@ module _ {r to : Record} {W H K : List ℕ} {until : ℕ} (is-ready : Ready r W 
   few-up : length (passed .up) ≤ 32
   few-up =
       omega
-      (arith, up-few (stale t) (r .oldest .0) cells, waiting-few cells, length-window (cellAt W H K) (r .oldest .0) (spanIn r), is-ready .narrow)
+      (arith, up-few (stale t) (r .oldest .0) cells, waiting-few cells, length-cells-from (cellAt W H K) (r .oldest .0) (spanIn r), is-ready .narrow)
 
   room-for : (U : List ℕ) → 32 ≤ length U → 0 + passedOf to until W H K ≤ length U
   room-for U room =
@@ -46,14 +46,14 @@ module _ {r to : Record} {W H K : List ℕ} {until : ℕ} (is-ready : Ready r W 
 
   pub ticked-did : {U u w : List ℕ} {s : Settled} → 32 ≤ length U → Settles to (settleNumbers W H K (spanIn to) 0 U) until W H K 0 U u s
       → w ≡ storedIn (s .kept) W
-      → Did (tick-on (recordIn r W H K) t) (parts W H K) (parts w H K) (buffers U [] []) (buffers u [] [])
+      → DidAt (tick-on (recordIn r W H K) t) (parts W H K) (parts w H K) (buffers U [] []) (buffers u [] [])
       (record { number = 0; up = s .up; returned = 0; nack = 0; lost = s .lost })
   unfolding recordWith asked
   ticked-did {U} {u} {w} {s} room settles ew =
       let done = walked (is-ready .sized) (room-for U room) settles in
       let words-some : 2 < length W = omega (arith, is-ready .sized .words) in
       record {
-        answered = record {
+        answer = record {
           number = refl;
           up = wrote-front (rw (walk-to, zero-add (s .up)) at (done .up)) (omega (arith, few-up));
           returned = wrote-none [];
@@ -69,7 +69,7 @@ module _ {r to : Record} {W H K : List ℕ} {until : ℕ} (is-ready : Ready r W 
 
 -- a tick that no number refuses
 pub called-tick : {p after : Parts} {b : Buffers} {time : ℕ} {r : Record} {u : List ℕ} {a : Answer} → Opened p b 0 time r
-    → Did (tick-on (recordIn r (p .words) (p .handles) (p .marks)) time) p after (buffers (b .up) [] []) (buffers u [] []) a
+    → DidAt (tick-on (recordIn r (p .words) (p .handles) (p .marks)) time) p after (buffers (b .up) [] []) (buffers u [] []) a
     → Called tick time p after b (buffers u (b .returned) (b .nack)) a
 unfolding act-on
 called-tick {b = b} {time = time} opened did =

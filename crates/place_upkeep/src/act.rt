@@ -8,7 +8,7 @@ ghost use Rattle.larq.specs.Channel.{window};
 ghost use Rattle.larq.specs.Events.{ahead, tick-on, close-on};
 ghost use Rattle.larq.specs.Settling.{hold};
 ghost use Rattle.record.specs.Moving.{recordIn};
-ghost use Rattle.place.specs.Call.{Did, Says, parts, buffers};
+ghost use Rattle.place.specs.Call.{DidAt, Says, parts, buffers};
 ghost use Rattle.place.specs.Steps.{Ready, answerOf, Missing, IsAhead};
 use larq::HOLD;
 use place::Answer;
@@ -23,7 +23,7 @@ use zeros::zero_u32;
 use zeros::zero_u64;
 
 // A reminder's number s lies ahead: it and those before it, `made` in all, become missing, and M settles. It gives nothing up by its time.
-pub(crate) fn told(
+pub(crate) fn reminded(
     r: Record,
     words: &mut [u64],
     handles: &[u32],
@@ -37,7 +37,7 @@ pub(crate) fn told(
     requires { ⌜ Ready r (now words) (now handles) (now marks) × (s .0 < 4096) ⌝ }
     requires { ⌜ (32 ≤ length (now up)) × (32 ≤ length (now nack)) ⌝ }
     requires { ⌜ IsAhead (r .current .0) (s .0) made Missing ⌝ }
-    ensures { λ k. ⌜ Did (ahead window (recordIn r (now (words .entry)) (now (handles .entry)) (now (marks .entry))) time (s .0) made [])
+    ensures { λ k. ⌜ DidAt (ahead window (recordIn r (now (words .entry)) (now (handles .entry)) (now (marks .entry))) time (s .0) made [])
         (parts (now (words .entry)) (now (handles .entry)) (now (marks .entry)))
         (parts (now (words .exit)) (now (handles .entry)) (now (marks .exit)))
         (buffers (now (up .entry)) [] (now (nack .entry)))
@@ -87,7 +87,7 @@ pub(crate) fn ticked(
     time: u64,
 ) -> Answer
     requires { ⌜ Ready r (now words) (now handles) (now marks) × (32 ≤ length (now up)) ⌝ }
-    ensures { λ a. ⌜ Did (tick-on (recordIn r (now (words .entry)) (now (handles .entry)) (now (marks .entry))) time)
+    ensures { λ a. ⌜ DidAt (tick-on (recordIn r (now (words .entry)) (now (handles .entry)) (now (marks .entry))) time)
         (parts (now (words .entry)) (now (handles .entry)) (now (marks .entry)))
         (parts (now (words .exit)) (now (handles .entry)) (now (marks .entry)))
         (buffers (now (up .entry)) [] [])
@@ -113,7 +113,7 @@ pub(crate) fn closed(
     returned: &mut [u32],
 ) -> Answer
     requires { ⌜ Ready r (now words) (now handles) (now marks) × (32 ≤ length (now returned)) ⌝ }
-    ensures { λ a. ⌜ Did (close-on (recordIn r (now (words .entry)) (now (handles .entry)) (now (marks .entry))))
+    ensures { λ a. ⌜ DidAt (close-on (recordIn r (now (words .entry)) (now (handles .entry)) (now (marks .entry))))
         (parts (now (words .entry)) (now (handles .entry)) (now (marks .entry)))
         (parts (now (words .exit)) (now (handles .exit)) (now (marks .exit)))
         (buffers [] (now (returned .entry)) [])

@@ -4,15 +4,15 @@ ghost use mathlib.Core.List.{[]};
 ghost use lib.ListN.{length};
 ghost use Rattle.larq.specs.Events.{reminder, tick, close};
 ghost use Rattle.record.specs.Moving.{recordIn};
-ghost use Rattle.place.specs.Call.{Did, Called, parts, buffers};
+ghost use Rattle.place.specs.Call.{DidAt, Called, parts, buffers};
 ghost use Rattle.place.specs.Steps.{Ready, reminderAt};
 
 mod act;
 
 use crate::act::closed;
 use crate::act::noted;
+use crate::act::reminded;
 use crate::act::ticked;
-use crate::act::told;
 use judging::Judged;
 use judging::judge;
 use place::Answer;
@@ -34,7 +34,7 @@ fn remind(
 ) -> Answer
     requires { ⌜ Ready r (now words) (now handles) (now marks) × (s .0 < 4096) ⌝ }
     requires { ⌜ (32 ≤ length (now up)) × (32 ≤ length (now nack)) ⌝ }
-    ensures { λ a. ⌜ Did (reminderAt (recordIn r (now (words .entry)) (now (handles .entry)) (now (marks .entry))) time (s .0))
+    ensures { λ a. ⌜ DidAt (reminderAt (recordIn r (now (words .entry)) (now (handles .entry)) (now (marks .entry))) time (s .0))
         (parts (now (words .entry)) (now (handles .entry)) (now (marks .entry)))
         (parts (now (words .exit)) (now (handles .exit)) (now (marks .exit)))
         (buffers (now (up .entry)) [] (now (nack .entry)))
@@ -48,7 +48,7 @@ fn remind(
     if !d.is_ahead() {
         return noted(words, time);
     }
-    accepted(told(r, words, handles, marks, up, nack, s, c.steps(s), time))
+    accepted(reminded(r, words, handles, marks, up, nack, s, c.steps(s), time))
 }
 
 // A reminder comes to the open place.

@@ -6,4 +6,4 @@ pub mod Laying
 pub mod Walks
 pub mod Settling
 pub mod Waiting
-pub mod Settled
+pub mod OneOutcome

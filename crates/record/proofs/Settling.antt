@@ -12,12 +12,12 @@ use borrow.Author.Tests.{lt-ltb, le-ltb, eq-eqb}
 use Rattle.ring.specs.Ring.{next}
 use Rattle.larq.specs.Channel.{Cell, missing}
 use Rattle.larq.specs.Settling.{walk, stays, handing, losing}
-use Rattle.record.specs.Place.{window, cellAt, placeSized}
+use Rattle.record.specs.Place.{cellsFrom, cellAt, placeSized}
 use Rattle.record.specs.Walk.{earlier, passes, walkFrom, Settles, most, settleNumbers}
 use Rattle.record.specs.Buffers.{Laid}
 use Rattle.record.specs.declared.Record.{Record}
 use Rattle.record.specs.declared.window.Settled.{Settled}
-use Rattle.record.proofs.Windows.{window-none, window-suc, cell-waits, cell-missing}
+use Rattle.record.proofs.Windows.{cells-from-none, cells-from-suc, cell-waits, cell-missing}
 use Rattle.record.proofs.Laying.{sets-more}
 use Rattle.record.proofs.Sizes.{place-sizes}
 use Rattle.record.proofs.Walks.{walk-first}
@@ -114,19 +114,19 @@ module _ {until : ℕ} {w h k : List ℕ} {m n at : ℕ} {before up : List ℕ} 
       }
 
   pub rests-none : left ≡ 0 → Rests until w h k m n at before up i gone lost
-  rests-none z = rests [] (ap (walk (earlier until) i) (window-none (cellAt w h k) i left z))
+  rests-none z = rests [] (ap (walk (earlier until) i) (cells-from-none (cellAt w h k) i left z))
 
   module _ {j : ℕ} (some : 0 < left) (at-slot : j ≡ i % 32) where
     pub rests-missing : getD k j 0 ≡ 0 → until ≤ getD w (3 + j) 0 → Rests until w h k m n at before up i gone lost
     rests-missing o l =
-        rests (missing (getD w (3 + i % 32) 0) ∷ window (cellAt w h k) (next i) (left - 1))
-        (ap (walk (earlier until) i) (window-suc (cellAt w h k) i left some)
+        rests (missing (getD w (3 + i % 32) 0) ∷ cellsFrom (cellAt w h k) (next i) (left - 1))
+        (ap (walk (earlier until) i) (cells-from-suc (cellAt w h k) i left some)
         ∙ rw (cell-missing w h k (i % 32) (rw at-slot at o), le-ltb (getD w (3 + i % 32) 0) until (rw at-slot at l)))
 
     handed-first : (getD k j 0 ≡ 0 → ⊥) → walkFrom until w h k i left ≡ handing (getD h j 0) (walkFrom until w h k (next i) (left - 1))
     handed-first o =
         rw at-slot
-        (ap (walk (earlier until) i) (window-suc (cellAt w h k) i left some) ∙ rw (cell-waits w h k (i % 32) (rw at-slot at o)))
+        (ap (walk (earlier until) i) (cells-from-suc (cellAt w h k) i left some) ∙ rw (cell-waits w h k (i % 32) (rw at-slot at o)))
 
     module _ {i′ : ℕ} (step : i′ ≡ next i) where
       pub passes-waits : (getD k j 0 ≡ 0 → ⊥)
@@ -158,7 +158,7 @@ module _ {until : ℕ} {w h k : List ℕ} {m n at : ℕ} {before up : List ℕ} 
       passes-missing o l =
           let e : walkFrom until w h k i left ≡ losing (walkFrom until w h k i′ (left - 1)) =
           rw step
-          (ap (walk (earlier until) i) (window-suc (cellAt w h k) i left some)
+          (ap (walk (earlier until) i) (cells-from-suc (cellAt w h k) i left some)
           ∙ rw (cell-missing w h k (i % 32) (rw at-slot at o), lt-ltb (getD w (3 + i % 32) 0) until (rw at-slot at l))) in
           let longer = ap (λ v. length (v .up)) e in
           record {

@@ -7,7 +7,7 @@ use borrow.Author.Tests.{leb-true, eqb-true}
 use Rattle.wire.proofs.Joined.{and-left, and-right}
 use Rattle.larq.specs.Channel.{window}
 use Rattle.larq.specs.Table.{lentEnough}
-use Rattle.record.specs.Place.{placeSized, lentOf}
+use Rattle.record.specs.Place.{placeSized, placeLent}
 
 -- the parts of a place, by their lengths
 pub place-sizes : (words handles marks : ℕ) → placeSized words handles marks ≡ true → (words ≡ 35) × (handles ≡ 32) × (marks ≡ 32)
@@ -27,7 +27,7 @@ pub record Enough (words handles marks up returned nack : ℕ) : Type 0 where
   pub handles-sized : handles ≡ 32
   pub marks-sized : marks ≡ 32
 
-pub enough-of : (words handles marks up returned nack : ℕ) → lentEnough window (lentOf words handles marks up returned nack) ≡ true
+pub enough-of : (words handles marks up returned nack : ℕ) → lentEnough window (placeLent words handles marks up returned nack) ≡ true
     → Enough words handles marks up returned nack
 enough-of words handles marks up returned nack e =
     let rooms = and-left (leb 32 up && (leb 32 returned && leb 32 nack)) _ e in

@@ -11,30 +11,30 @@ use lib.ListN.{length, getD, set, length-set}
 use lib.Seq.{sets}
 use Rattle.ring.specs.Ring.{next}
 use Rattle.larq.specs.Channel.{waits, missing, waiting}
-use Rattle.record.specs.Place.{window, cellAt, placeSized}
+use Rattle.record.specs.Place.{cellsFrom, cellAt, placeSized}
 use Rattle.record.specs.Walk.{waitingOf, handNumbers}
 use Rattle.record.specs.Buffers.{Laid}
-use Rattle.record.proofs.Windows.{window-none, window-suc, length-window, cell-waits, cell-missing}
+use Rattle.record.proofs.Windows.{cells-from-none, cells-from-suc, length-cells-from, cell-waits, cell-missing}
 use Rattle.record.proofs.Sizes.{place-sizes}
 use Rattle.record.proofs.Walks.{waiting-few}
 use Rattle.record.proofs.Laying.{sets-more}
 
 -- the words of a place have no part in it
-pub waiting-window : (words handles marks : List ℕ) (m n : ℕ) → waiting (window (cellAt words handles marks) m n) ≡ waitingOf handles marks m n
-unfolding window
-waiting-window words handles marks m zero = refl
-waiting-window words handles marks m (suc n) = by-mark (eqb (getD marks (m % 32) 0) 0) (waiting-window words handles marks (next m) n)
+pub waiting-cells-from : (words handles marks : List ℕ) (m n : ℕ) → waiting (cellsFrom (cellAt words handles marks) m n) ≡ waitingOf handles marks m n
+unfolding cellsFrom
+waiting-cells-from words handles marks m zero = refl
+waiting-cells-from words handles marks m (suc n) = by-mark (eqb (getD marks (m % 32) 0) 0) (waiting-cells-from words handles marks (next m) n)
   where
-    by-mark : (b : Bool) → waiting (window (cellAt words handles marks) (next m) n) ≡ waitingOf handles marks (next m) n
-        → waiting (cond b (missing (getD words (3 + m % 32) 0)) (waits (getD handles (m % 32) 0)) ∷ window (cellAt words handles marks) (next m) n)
-        ≡ waiting (cond b (missing 0) (waits (getD handles (m % 32) 0)) ∷ window (cellAt [] handles marks) (next m) n)
+    by-mark : (b : Bool) → waiting (cellsFrom (cellAt words handles marks) (next m) n) ≡ waitingOf handles marks (next m) n
+        → waiting (cond b (missing (getD words (3 + m % 32) 0)) (waits (getD handles (m % 32) 0)) ∷ cellsFrom (cellAt words handles marks) (next m) n)
+        ≡ waiting (cond b (missing 0) (waits (getD handles (m % 32) 0)) ∷ cellsFrom (cellAt [] handles marks) (next m) n)
     by-mark true i = i
     by-mark false i = ap (λ l. getD handles (m % 32) 0 ∷ l) i
 
 -- there are no more of them than numbers
 pub waiting-short : (handles marks : List ℕ) (m n : ℕ) → length (waitingOf handles marks m n) ≤ n
 waiting-short handles marks m n =
-    omega (arith, waiting-few (window (cellAt [] handles marks) m n), length-window (cellAt [] handles marks) m n)
+    omega (arith, waiting-few (cellsFrom (cellAt [] handles marks) m n), length-cells-from (cellAt [] handles marks) m n)
 
 -- What the loop keeps: what is still to be laid from here is what was to be laid from the start.
 pub record Lays (h k : List ℕ) (m n : ℕ) (before out : List ℕ) (to i left : ℕ) : Type 0 where
@@ -79,14 +79,14 @@ hands-all h k m n {before} eh ek room laid =
 module _ {h k : List ℕ} {m n : ℕ} {before out : List ℕ} {to i left : ℕ} (keeps : Lays h k m n before out to i left) where
   pub lays-end : {n′ : ℕ} → n ≡ n′ → left ≡ 0 → Laid (waitingOf h k m n′) 0 before out to
   lays-end f z =
-      let e : waitingOf h k i left ≡ [] = ap waiting (window-none (cellAt [] h k) i left z) in
+      let e : waitingOf h k i left ≡ [] = ap waiting (cells-from-none (cellAt [] h k) i left z) in
       rw (← f) (record { end-is = omega (arith, ap length e, keeps .end); buffer = sym (ap (sets out to) e) ∙ keeps .laid })
 
   module _ {j i′ : ℕ} (some : 0 < left) (at-slot : j ≡ i % 32) (step : i′ ≡ next i) where
     pub lays-waits : (getD k j 0 ≡ 0 → ⊥) → Lays h k m n before (set out to (getD h j 0)) (to + 1) i′ (left - 1)
     lays-waits o =
         let e : waitingOf h k i left ≡ getD h j 0 ∷ waitingOf h k i′ (left - 1) =
-        rw (at-slot, step) (ap waiting (window-suc (cellAt [] h k) i left some) ∙ rw (cell-waits [] h k (i % 32) (rw at-slot at o))) in
+        rw (at-slot, step) (ap waiting (cells-from-suc (cellAt [] h k) i left some) ∙ rw (cell-waits [] h k (i % 32) (rw at-slot at o))) in
         record {
           handles-sized = λ _. keeps .handles-sized some;
           marks-sized = λ _. keeps .marks-sized some;
@@ -99,7 +99,7 @@ module _ {h k : List ℕ} {m n : ℕ} {before out : List ℕ} {to i left : ℕ} 
     pub lays-missing : getD k j 0 ≡ 0 → Lays h k m n before out to i′ (left - 1)
     lays-missing o =
         let e : waitingOf h k i left ≡ waitingOf h k i′ (left - 1) =
-        rw step (ap waiting (window-suc (cellAt [] h k) i left some) ∙ rw (cell-missing [] h k (i % 32) (rw at-slot at o))) in
+        rw step (ap waiting (cells-from-suc (cellAt [] h k) i left some) ∙ rw (cell-missing [] h k (i % 32) (rw at-slot at o))) in
         record {
           handles-sized = λ _. keeps .handles-sized some;
           marks-sized = λ _. keeps .marks-sized some;

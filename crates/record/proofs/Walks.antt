@@ -11,7 +11,7 @@ use borrow.Author.Tests.{lt-ltb, le-ltb, leb-true, leb-false}
 use Rattle.ring.specs.Ring.{size, forward, next}
 use Rattle.larq.specs.Channel.{Cell, waits, missing, waiting, headMissing}
 use Rattle.larq.specs.Settling.{Walked, walk, stays, handing, losing, wide, hold, stale}
-use Rattle.record.specs.Place.{window}
+use Rattle.record.specs.Place.{cellsFrom}
 use Rattle.record.specs.Walk.{earlier, passes, most}
 use Rattle.record.proofs.Rounds.{forward-none, forward-next}
 
@@ -175,18 +175,18 @@ module _ (until : ℕ) where
       by-time true l = let e = rest (omega arith) in (e .0, omega (arith, e .1), e .2)
       by-time false l = (refl, refl, refl)
 
-  walk-part : (f : ℕ → Cell ℕ) (m j n : ℕ) → j ≤ n → passes (on m (window f m n)) ≤ j → Alike (on m (window f m j)) (on m (window f m n))
-  unfolding window
+  walk-part : (f : ℕ → Cell ℕ) (m j n : ℕ) → j ≤ n → passes (on m (cellsFrom f m n)) ≤ j → Alike (on m (cellsFrom f m j)) (on m (cellsFrom f m n))
+  unfolding cellsFrom
   walk-part f m zero zero h l = (refl, refl, refl)
-  walk-part f m zero (suc n) h l = none-passed m (f (m % 32)) (window f (next m) n) l
+  walk-part f m zero (suc n) h l = none-passed m (f (m % 32)) (cellsFrom f (next m) n) l
   walk-part f m (suc j) zero h l = absurd (let z : ⊥ = omega arith in z)
   walk-part f m (suc j) (suc n) h l =
-      one-passed m (f (m % 32)) (window f (next m) n) (window f (next m) j) j (walk-part f (next m) j n (omega arith)) l
+      one-passed m (f (m % 32)) (cellsFrom f (next m) n) (cellsFrom f (next m) j) j (walk-part f (next m) j n (omega arith)) l
 
-  pub walk-first : (f : ℕ → Cell ℕ) (m n room : ℕ) → passes (on m (window f m n)) ≤ room → Alike (on m (window f m (most n room))) (on m (window f m n))
+  pub walk-first : (f : ℕ → Cell ℕ) (m n room : ℕ) → passes (on m (cellsFrom f m n)) ≤ room → Alike (on m (cellsFrom f m (most n room))) (on m (cellsFrom f m n))
   walk-first f m n room l = by-test (leb n room) refl
     where
-      by-test : (b : Bool) → leb n room ≡ b → Alike (on m (window f m (most n room))) (on m (window f m n))
+      by-test : (b : Bool) → leb n room ≡ b → Alike (on m (cellsFrom f m (most n room))) (on m (cellsFrom f m n))
       by-test true e = let all : most n room ≡ n = omega (arith, leb-true n room e) in rw all (refl, refl, refl)
       by-test false e =
           let some : most n room ≡ room = omega (arith, leb-false n room e) in rw some (walk-part f m room n (omega (arith, leb-false n room e)) l)

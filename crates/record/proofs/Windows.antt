@@ -9,79 +9,79 @@ use lib.ListN.{length, getD, set, take, drop, replicate}
 use borrow.Author.Tests.{eq-eqb, ne-eqb}
 use Rattle.ring.specs.Ring.{size, forward, next}
 use Rattle.larq.specs.Channel.{Cell, waits, missing}
-use Rattle.record.specs.Place.{window, cellAt}
+use Rattle.record.specs.Place.{cellsFrom, cellAt}
 use Rattle.record.proofs.Rounds.{forward-none, forward-next, slot-none, slot-next, slots-apart}
 
 module _ (f : ℕ → Cell ℕ) where
-  pub window-none : (m n : ℕ) → n ≡ 0 → window f m n ≡ []
-  unfolding window
-  window-none m n e = ap (window f m) e
+  pub cells-from-none : (m n : ℕ) → n ≡ 0 → cellsFrom f m n ≡ []
+  unfolding cellsFrom
+  cells-from-none m n e = ap (cellsFrom f m) e
 
-  pub window-suc : (m n : ℕ) → 0 < n → window f m n ≡ f (m % 32) ∷ window f (next m) (n - 1)
-  unfolding window
-  window-suc m n p = ap (window f m) (let e : n ≡ suc (n - 1) = omega arith in e)
+  pub cells-from-suc : (m n : ℕ) → 0 < n → cellsFrom f m n ≡ f (m % 32) ∷ cellsFrom f (next m) (n - 1)
+  unfolding cellsFrom
+  cells-from-suc m n p = ap (cellsFrom f m) (let e : n ≡ suc (n - 1) = omega arith in e)
 
-  pub length-window : (m n : ℕ) → length (window f m n) ≡ n
-  unfolding window
-  length-window m zero = refl
-  length-window m (suc n) = ap suc (length-window (next m) n)
+  pub length-cells-from : (m n : ℕ) → length (cellsFrom f m n) ≡ n
+  unfolding cellsFrom
+  length-cells-from m zero = refl
+  length-cells-from m (suc n) = ap suc (length-cells-from (next m) n)
 
-  pub window-add : (m a b : ℕ) → m < size → window f m (a + b) ≡ window f m a ++ window f (forward m a) b
-  unfolding window
-  window-add m zero b h = ap₂ (λ x y. window f x y) (sym (forward-none m h)) (zero-add b)
-  window-add m (suc a) b h =
+  pub cells-from-add : (m a b : ℕ) → m < size → cellsFrom f m (a + b) ≡ cellsFrom f m a ++ cellsFrom f (forward m a) b
+  unfolding cellsFrom
+  cells-from-add m zero b h = ap₂ (λ x y. cellsFrom f x y) (sym (forward-none m h)) (zero-add b)
+  cells-from-add m (suc a) b h =
       let e : suc a + b ≡ suc (a + b) = omega arith in
-      rw e (ap (λ l. f (m % 32) ∷ l) (window-add (next m) a b (omega arith) ∙ ap (λ x. window f (next m) a ++ window f x b) (forward-next m a)))
+      rw e (ap (λ l. f (m % 32) ∷ l) (cells-from-add (next m) a b (omega arith) ∙ ap (λ x. cellsFrom f (next m) a ++ cellsFrom f x b) (forward-next m a)))
 
-  pub drop-window : (j m n : ℕ) → m < size → drop j (window f m n) ≡ window f (forward m j) (n - j)
-  unfolding window
-  drop-window zero m n h = ap₂ (λ x y. window f x y) (sym (forward-none m h)) (let e : n ≡ n - 0 = omega arith in e)
-  drop-window (suc j) m zero h = let e : 0 - suc j ≡ 0 = omega arith in rw e
-  drop-window (suc j) m (suc n) h =
+  pub drop-cells-from : (j m n : ℕ) → m < size → drop j (cellsFrom f m n) ≡ cellsFrom f (forward m j) (n - j)
+  unfolding cellsFrom
+  drop-cells-from zero m n h = ap₂ (λ x y. cellsFrom f x y) (sym (forward-none m h)) (let e : n ≡ n - 0 = omega arith in e)
+  drop-cells-from (suc j) m zero h = let e : 0 - suc j ≡ 0 = omega arith in rw e
+  drop-cells-from (suc j) m (suc n) h =
       let e : suc n - suc j ≡ n - j = omega arith in
-      rw e (drop-window j (next m) n (omega arith) ∙ ap (λ x. window f x (n - j)) (forward-next m j))
+      rw e (drop-cells-from j (next m) n (omega arith) ∙ ap (λ x. cellsFrom f x (n - j)) (forward-next m j))
 
-  pub take-window : (j m n : ℕ) → take j (window f m n) ≡ window f m (j - (j - n))
-  unfolding window
-  take-window zero m n = ap (window f m) (let e : 0 ≡ 0 - (0 - n) = omega arith in e)
-  take-window (suc j) m zero = ap (window f m) (let e : 0 ≡ suc j - (suc j - 0) = omega arith in e)
-  take-window (suc j) m (suc n) =
-      let e : suc j - (suc j - suc n) ≡ suc (j - (j - n)) = omega arith in rw e (ap (λ l. f (m % 32) ∷ l) (take-window j (next m) n))
+  pub take-cells-from : (j m n : ℕ) → take j (cellsFrom f m n) ≡ cellsFrom f m (j - (j - n))
+  unfolding cellsFrom
+  take-cells-from zero m n = ap (cellsFrom f m) (let e : 0 ≡ 0 - (0 - n) = omega arith in e)
+  take-cells-from (suc j) m zero = ap (cellsFrom f m) (let e : 0 ≡ suc j - (suc j - 0) = omega arith in e)
+  take-cells-from (suc j) m (suc n) =
+      let e : suc j - (suc j - suc n) ≡ suc (j - (j - n)) = omega arith in rw e (ap (λ l. f (m % 32) ∷ l) (take-cells-from j (next m) n))
 
-  pub window-at : (m n i : ℕ) (d : Cell ℕ) → i < n → getD (window f m n) i d ≡ f ((m + i) % 32)
-  unfolding window
-  window-at m zero i d h = absurd (let z : ⊥ = omega arith in z)
-  window-at m (suc n) zero d h = ap f (slot-none m)
-  window-at m (suc n) (suc i) d h = window-at (next m) n i d (omega arith) ∙ ap f (slot-next m i)
+  pub cells-from-at : (m n i : ℕ) (d : Cell ℕ) → i < n → getD (cellsFrom f m n) i d ≡ f ((m + i) % 32)
+  unfolding cellsFrom
+  cells-from-at m zero i d h = absurd (let z : ⊥ = omega arith in z)
+  cells-from-at m (suc n) zero d h = ap f (slot-none m)
+  cells-from-at m (suc n) (suc i) d h = cells-from-at (next m) n i d (omega arith) ∙ ap f (slot-next m i)
 
 -- a window goes by the slots that it has
-pub window-same : (f g : ℕ → Cell ℕ) (m n : ℕ) → ((j : ℕ) → j < n → f ((m + j) % 32) ≡ g ((m + j) % 32)) → window f m n ≡ window g m n
-unfolding window
-window-same f g m zero h = refl
-window-same f g m (suc n) h =
+pub cells-from-same : (f g : ℕ → Cell ℕ) (m n : ℕ) → ((j : ℕ) → j < n → f ((m + j) % 32) ≡ g ((m + j) % 32)) → cellsFrom f m n ≡ cellsFrom g m n
+unfolding cellsFrom
+cells-from-same f g m zero h = refl
+cells-from-same f g m (suc n) h =
     ap₂ {C = List (Cell ℕ)} (λ x l. x ∷ l) (rw slot-none (h 0 (omega arith)))
-    (window-same f g (next m) n (λ j p. ap f (slot-next m j) ∙ h (suc j) (omega arith) ∙ ap g (sym (slot-next m j))))
+    (cells-from-same f g (next m) n (λ j p. ap f (slot-next m j) ∙ h (suc j) (omega arith) ∙ ap g (sym (slot-next m j))))
 
 -- all its slots hold the same cell
-pub window-all : (f : ℕ → Cell ℕ) (x : Cell ℕ) (m n : ℕ) → ((j : ℕ) → j < n → f ((m + j) % 32) ≡ x) → window f m n ≡ replicate n x
-unfolding window
-window-all f x m zero h = refl
-window-all f x m (suc n) h =
+pub cells-from-all : (f : ℕ → Cell ℕ) (x : Cell ℕ) (m n : ℕ) → ((j : ℕ) → j < n → f ((m + j) % 32) ≡ x) → cellsFrom f m n ≡ replicate n x
+unfolding cellsFrom
+cells-from-all f x m zero h = refl
+cells-from-all f x m (suc n) h =
     ap₂ {C = List (Cell ℕ)} (λ x l. x ∷ l) (rw slot-none (h 0 (omega arith)))
-    (window-all f x (next m) n (λ j p. ap f (slot-next m j) ∙ h (suc j) (omega arith)))
+    (cells-from-all f x (next m) n (λ j p. ap f (slot-next m j) ∙ h (suc j) (omega arith)))
 
 -- one slot of the window is another
-pub window-set : (f g : ℕ → Cell ℕ) (m n k : ℕ) → n ≤ 32 → k < n → ((i : ℕ) → (i ≡ (m + k) % 32 → ⊥) → g i ≡ f i)
-    → window g m n ≡ set (window f m n) k (g ((m + k) % 32))
-unfolding window
-window-set f g m zero k b h o = absurd (let z : ⊥ = omega arith in z)
-window-set f g m (suc n) zero b h o =
+pub cells-from-set : (f g : ℕ → Cell ℕ) (m n k : ℕ) → n ≤ 32 → k < n → ((i : ℕ) → (i ≡ (m + k) % 32 → ⊥) → g i ≡ f i)
+    → cellsFrom g m n ≡ set (cellsFrom f m n) k (g ((m + k) % 32))
+unfolding cellsFrom
+cells-from-set f g m zero k b h o = absurd (let z : ⊥ = omega arith in z)
+cells-from-set f g m (suc n) zero b h o =
     ap₂ {C = List (Cell ℕ)} (λ x l. x ∷ l) (ap g (slot-none m))
-    (window-same g f (next m) n (λ j p. o _ (λ e. slots-apart m 0 (suc j) (omega arith) (omega arith) (sym (sym (slot-next m j) ∙ e)))))
-window-set f g m (suc n) (suc k) b h o =
+    (cells-from-same g f (next m) n (λ j p. o _ (λ e. slots-apart m 0 (suc j) (omega arith) (omega arith) (sym (sym (slot-next m j) ∙ e)))))
+cells-from-set f g m (suc n) (suc k) b h o =
     let e : (m + suc k) % 32 ≡ (next m + k) % 32 = omega arith in
     ap₂ {C = List (Cell ℕ)} (λ x l. x ∷ l) (o _ (λ r. slots-apart m 0 (suc k) (omega arith) (omega arith) (sym (slot-none m) ∙ r)))
-    (window-set f g (next m) n k (omega arith) (omega arith) (λ i q. o i (λ r. q (r ∙ e))) ∙ ap (λ (i : ℕ). set (window f (next m) n) k (g i)) (sym e))
+    (cells-from-set f g (next m) n k (omega arith) (omega arith) (λ i q. o i (λ r. q (r ∙ e))) ∙ ap (λ (i : ℕ). set (cellsFrom f (next m) n) k (g i)) (sym e))
 
 -- A slot by its mark.
 module _ (words handles marks : List ℕ) (i : ℕ) where

@@ -14,9 +14,9 @@ abbrev pub cellAt : List ℕ → List ℕ → List ℕ → ℕ → Cell ℕ
 cellAt words handles marks i = cond (eqb (getD marks i 0) 0) (missing (getD words (3 + i) 0)) (waits (getD handles i 0))
 
 -- the cells of n numbers from m on
-unfoldable pub window : (ℕ → Cell ℕ) → ℕ → ℕ → List (Cell ℕ)
-window cell m zero = []
-window cell m (suc n) = cell (m % 32) ∷ window cell (next m) n
+unfoldable pub cellsFrom : (ℕ → Cell ℕ) → ℕ → ℕ → List (Cell ℕ)
+cellsFrom cell m zero = []
+cellsFrom cell m (suc n) = cell (m % 32) ∷ cellsFrom cell (next m) n
 
 -- the span: C + 1 - M modulo 4,096
 abbrev pub spanOf : ℕ → ℕ → ℕ
@@ -24,7 +24,7 @@ spanOf c m = steps m (c + 1)
 
 unfoldable pub recordWith : ℕ → ℕ → ℕ → List ℕ → List ℕ → List ℕ → Channel ℕ
 recordWith c m t words handles marks =
-    record { current = c; oldest = m; latest = t; cells = window (cellAt words handles marks) m (spanOf c m) }
+    record { current = c; oldest = m; latest = t; cells = cellsFrom (cellAt words handles marks) m (spanOf c m) }
 
 -- the record that a place holds
 abbrev pub recordOf : List ℕ → List ℕ → List ℕ → Channel ℕ
@@ -35,8 +35,8 @@ abbrev pub placeSized : ℕ → ℕ → ℕ → Bool
 placeSized words handles marks = eqb words 35 && (eqb handles 32 && eqb marks 32)
 
 -- what is lent for a call, by its lengths
-abbrev pub lentOf : ℕ → ℕ → ℕ → ℕ → ℕ → ℕ → Lent
-lentOf words handles marks up returned nack =
+abbrev pub placeLent : ℕ → ℕ → ℕ → ℕ → ℕ → ℕ → Lent
+placeLent words handles marks up returned nack =
     record { up = up; returned = returned; nack = nack; whole = placeSized words handles marks }
 
 -- a place's record is not broken; the handles have no part in it

@@ -7,7 +7,7 @@ use lib.ListN.{length}
 use lib.Dec.{ltb, leb}
 use Rattle.larq.specs.Channel.{waiting}
 use Rattle.larq.specs.Settling.{Walked, walk}
-use Rattle.record.specs.Place.{window, cellAt, placeSized}
+use Rattle.record.specs.Place.{cellsFrom, cellAt, placeSized}
 use Rattle.record.specs.Buffers.{Laid}
 use Rattle.record.specs.declared.Record.{Record}
 use Rattle.record.specs.declared.window.Settled.{Settled}
@@ -22,7 +22,7 @@ passes p = length (p .up) + p .lost
 
 -- M's walk over n numbers from m on
 abbrev pub walkFrom : ℕ → List ℕ → List ℕ → List ℕ → ℕ → ℕ → Walked ℕ
-walkFrom until w h k m n = walk (earlier until) m (window (cellAt w h k) m n)
+walkFrom until w h k m n = walk (earlier until) m (cellsFrom (cellAt w h k) m n)
 
 -- M has settled, over n numbers: what went up was laid into a buffer from index `at` on
 pub record Settles (r : Record) (n until : ℕ) (w h k : List ℕ) (at : ℕ) (before after : List ℕ) (s : Settled) : Type 0 where
@@ -42,7 +42,7 @@ settleNumbers w h k n at up = cond (placeSized (length w) (length h) (length k))
 
 -- the waiting handles of n numbers from m on, in sequence order: the times of missing numbers have no part in it
 abbrev pub waitingOf : List ℕ → List ℕ → ℕ → ℕ → List ℕ
-waitingOf handles marks m n = waiting (window (cellAt [] handles marks) m n)
+waitingOf handles marks m n = waiting (cellsFrom (cellAt [] handles marks) m n)
 
 -- of how many of n numbers the waiting handles are laid down: of all, or of none where the slots are not those of a place or n have no room
 abbrev pub handNumbers : List ℕ → List ℕ → ℕ → List ℕ → ℕ

@@ -6,7 +6,7 @@ ghost use Prim.Native.Nat.{_-_, _%_};
 ghost use Rattle.ring.specs.Ring.{forward, next};
 ghost use Rattle.larq.specs.Channel.{window};
 ghost use Rattle.larq.specs.Table.{lentEnough};
-ghost use Rattle.record.specs.Place.{spanOf, placeSized, lentOf};
+ghost use Rattle.record.specs.Place.{spanOf, placeSized, placeLent};
 ghost use Rattle.record.specs.Moving.{IsGrown, storedIn};
 
 mod window;
@@ -61,7 +61,7 @@ pub fn lent_enough(
     returned: usize,
     nack: usize,
 ) -> bool
-    ensures { λ r. ⌜ r ≡ lentEnough window (lentOf words handles marks up returned nack) ⌝ }
+    ensures { λ r. ⌜ r ≡ lentEnough window (placeLent words handles marks up returned nack) ⌝ }
 {
     let room = WINDOW as usize;
     ((room <= up) & ((room <= returned) & (room <= nack))) & is_whole(words, handles, marks)

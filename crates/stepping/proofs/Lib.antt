@@ -1,3 +1,3 @@
 pub mod Stamping
 pub mod Stepping
-pub mod Settled
+pub mod OneOutcome

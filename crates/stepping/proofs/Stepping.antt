@@ -12,7 +12,7 @@ use Rattle.ring.specs.Ring.{steps}
 use Rattle.larq.specs.Channel as channel
 use Rattle.larq.specs.Table.{lentEnough}
 use Rattle.record.specs.Buffers.{Laid}
-use Rattle.record.specs.Place.{lentOf}
+use Rattle.record.specs.Place.{placeLent}
 use Rattle.record.specs.Moving.{spanIn, IsGrown}
 use Rattle.stepping.specs.Step.{canStep}
 use Rattle.record.specs.Walk.{waitingOf, handNumbers}
@@ -30,7 +30,7 @@ pub record Fits (r : Record) (s made : ℕ) (w h k u q : List ℕ) : Type 0 wher
 module _ (r : Record) (s made : ℕ) (w h k u q : List ℕ) where
   pub fits-of : canStep r s made w h k u q ≡ true → Fits r s made w h k u q
   fits-of e =
-      let lent = lentEnough channel.window (lentOf (length w) (length h) (length k) (length u) (length u) (length q)) in
+      let lent = lentEnough channel.window (placeLent (length w) (length h) (length k) (length u) (length u) (length q)) in
       let rest = and-right lent _ e in
       record {
         enough = enough-of (length w) (length h) (length k) (length u) (length u) (length q) (and-left lent _ e);

@@ -10,7 +10,7 @@ use Rattle.ring.specs.Ring.{steps, next, rising}
 use Rattle.larq.specs.Channel.{window}
 use Rattle.larq.specs.Table.{Lent, lentEnough}
 use Rattle.record.specs.Buffers.{Laid}
-use Rattle.record.specs.Place.{lentOf}
+use Rattle.record.specs.Place.{placeLent}
 use Rattle.record.specs.Moving.{spanIn, IsGrown}
 use Rattle.record.specs.Walk.{waitingOf}
 use Rattle.record.specs.declared.Record.{Record}
@@ -36,7 +36,7 @@ canWiden lent span made d = lentEnough window lent && (leb span window && leb ma
 -- whether C can come to s so, in these parts and buffers
 abbrev pub canStep : Record → ℕ → ℕ → List ℕ → List ℕ → List ℕ → List ℕ → List ℕ → Bool
 canStep r s made w h k u q =
-    canWiden (lentOf (length w) (length h) (length k) (length u) (length u) (length q)) (spanIn r) made (steps (r .current .0) s)
+    canWiden (placeLent (length w) (length h) (length k) (length u) (length u) (length q)) (spanIn r) made (steps (r .current .0) s)
 
 -- nothing has been answered yet
 abbrev pub nothing : Counts

@@ -5,7 +5,7 @@ ghost use Prim.Native.Nat.{_≤_};
 ghost use lib.ListN.{length};
 ghost use Rattle.ring.specs.Ring.{steps};
 ghost use Rattle.record.specs.Moving.{spanIn};
-ghost use Rattle.record.specs.Place.{lentOf};
+ghost use Rattle.record.specs.Place.{placeLent};
 ghost use Rattle.stepping.specs.Step.{Missed, canWiden, unmoved, Widens};
 use larq::WINDOW;
 use record::Grown;
@@ -76,7 +76,7 @@ fn can_widen(
     s: Seq,
     made: u16,
 ) -> bool
-    ensures { λ b. ⌜ b ≡ canWiden (lentOf words handles marks up up nack) (spanIn r) made (steps (r .current .0) (s .0)) ⌝ }
+    ensures { λ b. ⌜ b ≡ canWiden (placeLent words handles marks up up nack) (spanIn r) made (steps (r .current .0) (s .0)) ⌝ }
 {
     let c = r.current;
     lent_enough(words, handles, marks, up, up, nack) & ((r.span() <= WINDOW) & (made <= c.steps(s)))

@@ -12,7 +12,7 @@ use Rattle.larq.specs.Channel.{window}
 use Rattle.larq.specs.Table.{Key, Lent, lentEnough}
 use Rattle.table.specs.First.{firstPlace, stores, storesNone}
 use Rattle.table.specs.Key.{firstWord}
-use Rattle.table.specs.Way.{judged, placeFor, waySays, wayFor, dataWaySays, dataWayFor, isFound, placesOf, leadsTo}
+use Rattle.table.specs.Way.{earlyNumber, placeFor, waySays, wayFor, dataWaySays, dataWayFor, isFound, placesOf, leadsTo}
 use Rattle.table.specs.declared.lookup.Found.{Found}
 use Rattle.table.specs.declared.way.Way.{Way}
 use Rattle.table.specs.declared.way.DataWay.{DataWay}
@@ -32,8 +32,8 @@ by-tests true true true (Found.At i) = refl
 by-tests true true true Found.Nothing = refl
 
 pub way-says : (l : Lent) (number priority : ℕ) (place : Found)
-    → waySays (wayBy (judged l number priority) place) ≡ wayFor l number priority place
-unfolding judged
+    → waySays (wayBy (earlyNumber l number priority) place) ≡ wayFor l number priority place
+unfolding earlyNumber
 way-says l number priority place = by-tests (lentEnough window l) (leb number 4095) (leb priority 7) place
 
 data-by-tests : (a b c : Bool) (place spare : Found) → dataWaySays (dataWayBy (wayBy (first (tests a b c)) place) spare)
@@ -46,9 +46,9 @@ data-by-tests true true true (Found.At i) spare = refl
 data-by-tests true true true Found.Nothing (Found.At i) = refl
 data-by-tests true true true Found.Nothing Found.Nothing = refl
 
-pub data-way-says : (l : Lent) (number priority : ℕ) (place spare : Found) → dataWaySays (dataWayBy (wayBy (judged l number priority) place) spare)
+pub data-way-says : (l : Lent) (number priority : ℕ) (place spare : Found) → dataWaySays (dataWayBy (wayBy (earlyNumber l number priority) place) spare)
     ≡ dataWayFor l number priority place spare
-unfolding judged
+unfolding earlyNumber
 data-way-says l number priority place spare = data-by-tests (lentEnough window l) (leb number 4095) (leb priority 7) place spare
 
 -- ways that say the same are the same, so what a way says settles it
@@ -81,20 +81,20 @@ one-data-way (DataWay.Refused n) (DataWay.Free i) e = absurd (some-none 1 (i ∷
 one-data-way (DataWay.Refused n) (DataWay.Refused m) e = ap DataWay.Refused (number-is (refused n) (refused m) e)
 
 -- the way by the number and the places, from what it says
-pub said-way : (l : Lent) (number priority : ℕ) (place : Found) (w : Way) → waySays w ≡ wayFor l number priority place → w ≡ wayBy (judged l number priority) place
-said-way l number priority place w e = one-way w (wayBy (judged l number priority) place) (e ∙ sym (way-says l number priority place))
+pub said-way : (l : Lent) (number priority : ℕ) (place : Found) (w : Way) → waySays w ≡ wayFor l number priority place → w ≡ wayBy (earlyNumber l number priority) place
+said-way l number priority place w e = one-way w (wayBy (earlyNumber l number priority) place) (e ∙ sym (way-says l number priority place))
 
 pub said-data-way : (l : Lent) (number priority : ℕ) (place spare : Found) (w : DataWay) → dataWaySays w ≡ dataWayFor l number priority place spare
-    → w ≡ dataWayBy (wayBy (judged l number priority) place) spare
+    → w ≡ dataWayBy (wayBy (earlyNumber l number priority) place) spare
 said-data-way l number priority place spare w e =
-    one-data-way w (dataWayBy (wayBy (judged l number priority) place) spare) (e ∙ sym (data-way-says l number priority place spare))
+    one-data-way w (dataWayBy (wayBy (earlyNumber l number priority) place) spare) (e ∙ sym (data-way-says l number priority place spare))
 
 -- the same for the key whose two words were looked up
 module _ (l : Lent) (number : ℕ) (keys : List ℕ) (k : Key) (x y : ℕ) (one : x ≡ firstWord k) (two : y ≡ k .source) where
   pub way-of-key : (w : Way) → waySays w ≡ wayFor l number (k .priority) (firstPlace (stores keys x y))
-      → w ≡ wayBy (judged l number (k .priority)) (placeFor keys k)
+      → w ≡ wayBy (earlyNumber l number (k .priority)) (placeFor keys k)
   way-of-key w e = said-way l number (k .priority) (placeFor keys k) w (rw (one, two) at e)
 
   pub data-way-of-key : (w : DataWay) → dataWaySays w ≡ dataWayFor l number (k .priority) (firstPlace (stores keys x y)) (firstPlace (storesNone keys))
-      → w ≡ dataWayBy (wayBy (judged l number (k .priority)) (placeFor keys k)) (firstPlace (storesNone keys))
+      → w ≡ dataWayBy (wayBy (earlyNumber l number (k .priority)) (placeFor keys k)) (firstPlace (storesNone keys))
   data-way-of-key w e = said-data-way l number (k .priority) (placeFor keys k) (firstPlace (storesNone keys)) w (rw (one, two) at e)

@@ -11,7 +11,7 @@ use Rattle.wire.proofs.Joined.{and-left, and-right}
 use Rattle.larq.specs.Channel.{window}
 use Rattle.larq.specs.Table.{Lent, lentEnough}
 use Rattle.table.specs.Table.{whole}
-use Rattle.table.specs.Way.{lentOf, judged}
+use Rattle.table.specs.Way.{tableLent, earlyNumber}
 use Rattle.table.specs.declared.lookup.Found.{Found}
 use Rattle.table.specs.declared.way.Way.{Way}
 use Rattle.table.specs.declared.way.DataWay.{DataWay}
@@ -44,8 +44,8 @@ pub record Passed (l : Lent) (s p : ℕ) : Type 0 where
   pub number : leb s 4095 ≡ true
   pub priority : leb p 7 ≡ true
 
-pub judged-passed : (l : Lent) (s p : ℕ) → judged l s p ≡ 0 → Passed l s p
-unfolding judged
+pub judged-passed : (l : Lent) (s p : ℕ) → earlyNumber l s p ≡ 0 → Passed l s p
+unfolding earlyNumber
 judged-passed l s p e =
     let one = passed (lentEnough window l) (cond (leb s 4095) (cond (leb p 7) 0 3) 2) 0 e in
     let two = passed (leb s 4095) (cond (leb p 7) 0 3) 1 (one .1) in
@@ -87,9 +87,9 @@ pub lent-whole : (l : Lent) → lentEnough window l ≡ true → l .whole ≡ tr
 lent-whole l e = both (leb 32 (l .up) && (leb 32 (l .returned) && leb 32 (l .nack))) (l .whole) e .1
 
 -- the keys of what is lent enough are those of 64 places
-pub keys-sized : (k w h m u r n s p : ℕ) → judged (lentOf k w h m u r n) s p ≡ 0 → k ≡ 128
+pub keys-sized : (k w h m u r n s p : ℕ) → earlyNumber (tableLent k w h m u r n) s p ≡ 0 → k ≡ 128
 keys-sized k w h m u r n s p e =
-    whole-sizes k w h m (lent-whole (lentOf k w h m u r n) (judged-passed (lentOf k w h m u r n) s p e .lent)) .keys
+    whole-sizes k w h m (lent-whole (tableLent k w h m u r n) (judged-passed (tableLent k w h m u r n) s p e .lent)) .keys
 
 -- the way that follows from the number and the place
 pub way-early : (n m : ℕ) (f : Found) → n ≡ m → (n ≡ 0 → ⊥) → Way.Refused n ≡ wayBy m f
@@ -133,10 +133,10 @@ refused-way zero Found.Nothing m e = inr (refl, refl, cc)
 refused-way (suc n) f m e = inl (cc, λ z. omega arith)
 
 -- number 4 comes of a lookup that finds nothing
-pub unknown-way : (l : Lent) (s p : ℕ) (f : Found) (m : ℕ) → wayBy (judged l s p) f ≡ Way.Refused m → m ≡ 4 → (judged l s p ≡ 0) × (f ≡ Found.Nothing)
-unfolding judged
+pub unknown-way : (l : Lent) (s p : ℕ) (f : Found) (m : ℕ) → wayBy (earlyNumber l s p) f ≡ Way.Refused m → m ≡ 4 → (earlyNumber l s p ≡ 0) × (f ≡ Found.Nothing)
+unfolding earlyNumber
 unknown-way l s p f m e four =
-    ⊎-elim (λ z. absurd (small (lentEnough window l) (leb s 4095) (leb p 7) (z .0 ∙ four))) (λ z. (z .0, z .1)) (refused-way (judged l s p) f m e)
+    ⊎-elim (λ z. absurd (small (lentEnough window l) (leb s 4095) (leb p 7) (z .0 ∙ four))) (λ z. (z .0, z .1)) (refused-way (earlyNumber l s p) f m e)
   where
     small : (a b d : Bool) → _≡_ {A = ℕ} (cond a (cond b (cond d 0 3) 2) 1) 4 → ⊥
     small true true true e = omega arith

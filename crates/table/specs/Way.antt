@@ -16,8 +16,8 @@ use Rattle.table.specs.declared.way.Way.{Way}
 use Rattle.table.specs.declared.way.DataWay.{DataWay}
 
 -- what is lent, by the lengths of the table's four slices and of the three answer buffers
-abbrev pub lentOf : ℕ → ℕ → ℕ → ℕ → ℕ → ℕ → ℕ → Lent
-lentOf keys words handles marks up returned nack =
+abbrev pub tableLent : ℕ → ℕ → ℕ → ℕ → ℕ → ℕ → ℕ → Lent
+tableLent keys words handles marks up returned nack =
     record { up = up; returned = returned; nack = nack; whole = whole keys words handles marks }
 
 -- the tests of numbers 1 to 3, which are made before the table is looked at
@@ -25,8 +25,8 @@ abbrev pub early : Lent → ℕ → ℕ → List Refusal
 early l number priority = (lentEnough window l else 1) ∷ ((isNumber number else 2) ∷ ((isPriority priority else 3) ∷ []))
 
 -- the number that they lead to, or 0
-unfoldable pub judged : Lent → ℕ → ℕ → ℕ
-judged l number priority = first (early l number priority)
+unfoldable pub earlyNumber : Lent → ℕ → ℕ → ℕ
+earlyNumber l number priority = first (early l number priority)
 
 -- the first place that stores a key
 abbrev pub placeFor : List ℕ → Key → Found

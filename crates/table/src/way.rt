@@ -5,7 +5,7 @@ ghost use lib.Dec.{leb};
 ghost use mathlib.Core.Bool.{_&&_};
 ghost use Rattle.table.specs.First.{firstPlace, stores, storesNone};
 ghost use Rattle.table.specs.Table.{whole};
-ghost use Rattle.table.specs.Way.{lentOf, judged, waySays, wayFor, dataWaySays, dataWayFor};
+ghost use Rattle.table.specs.Way.{tableLent, earlyNumber, waySays, wayFor, dataWaySays, dataWayFor};
 use crate::KEYS_IN_ALL;
 use crate::PLACES;
 use crate::SLOTS;
@@ -51,7 +51,7 @@ fn has_room(up: usize, returned: usize, nack: usize) -> bool
 }
 
 // The numbers 1 to 3, or 0 where none of them applies.
-fn judge(
+fn early_refusal(
     keys: usize,
     words: usize,
     handles: usize,
@@ -62,7 +62,7 @@ fn judge(
     number: u16,
     priority: u8,
 ) -> u8
-    ensures { λ r. ⌜ r ≡ judged (lentOf keys words handles marks up returned nack) number priority ⌝ }
+    ensures { λ r. ⌜ r ≡ earlyNumber (tableLent keys words handles marks up returned nack) number priority ⌝ }
 {
     if !(has_room(up, returned, nack) & is_whole(keys, words, handles, marks)) {
         return 1;
@@ -91,10 +91,10 @@ pub fn way_of(
     priority: u8,
 ) -> Way
     ensures { λ r. ⌜ waySays r
-        ≡ wayFor (lentOf (length (now (keys .entry))) words handles marks up returned nack) number priority
+        ≡ wayFor (tableLent (length (now (keys .entry))) words handles marks up returned nack) number priority
         (firstPlace (stores (now (keys .entry)) first second)) ⌝ }
 {
-    let refusal = judge(
+    let refusal = early_refusal(
         keys.len(),
         words,
         handles,
@@ -129,7 +129,7 @@ pub fn data_way_of(
     priority: u8,
 ) -> DataWay
     ensures { λ r. ⌜ dataWaySays r
-        ≡ dataWayFor (lentOf (length (now (keys .entry))) words handles marks up returned nack) number priority
+        ≡ dataWayFor (tableLent (length (now (keys .entry))) words handles marks up returned nack) number priority
         (firstPlace (stores (now (keys .entry)) first second)) (firstPlace (storesNone (now (keys .entry)))) ⌝ }
 {
     let way = way_of(

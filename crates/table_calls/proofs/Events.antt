@@ -22,7 +22,7 @@ use Rattle.place.specs.declared.Answer.{Answer}
 use Rattle.table.specs.First.{places, firstPlace, stores, storesNone}
 use Rattle.table.specs.Key.{keyOf, firstWord}
 use Rattle.table.specs.Table.{Slices, slices, placeAt}
-use Rattle.table.specs.Way.{lentOf, judged, placeFor, waySays, wayFor, dataWaySays, dataWayFor}
+use Rattle.table.specs.Way.{tableLent, earlyNumber, placeFor, waySays, wayFor, dataWaySays, dataWayFor}
 use Rattle.table_calls.specs.Writes.{keyed, Opens}
 use Rattle.table.specs.Addressed.{isOf}
 use Rattle.table_calls.specs.Event.{eventOf, Did, Call}
@@ -100,10 +100,10 @@ module _ (c : Told) where
 
   abbrev pub lentNow : Lent
   lentNow =
-      lentOf (length (c .keys)) (length (c .words)) (length (c .handles)) (length (c .marks)) (length (c .up)) (length (c .returned)) (length (c .nack))
+      tableLent (length (c .keys)) (length (c .words)) (length (c .handles)) (length (c .marks)) (length (c .up)) (length (c .returned)) (length (c .nack))
 
   abbrev pub judgement : ℕ → ℕ
-  judgement number = judged lentNow number (c .priority)
+  judgement number = earlyNumber lentNow number (c .priority)
 
   abbrev pub way : ℕ → Way
   way number = wayBy (judgement number) (placeFor (c .keys) key)
@@ -214,7 +214,7 @@ closed-did c w i keys p has given by to back call freed-keys =
     let there : Called close (c .time) (partsAt i (before c)) p (had c) has given =
     rw (lent-part 35 i (c .words), lent-part 32 i (c .handles), lent-part 32 i (c .marks)) at call in
     went-did c close 0 refl w i keys p has given by to back call
-    (rw (freed-keys, there .answered .number) (keys-freed i (c .keys) (partsAt i (before c)) (had c) (c .time)))
+    (rw (freed-keys, there .answer .number) (keys-freed i (c .keys) (partsAt i (before c)) (had c) (c .time)))
 
 -- data, by its ways
 module _ (c : Told) (number handle : ℕ) where

@@ -10,8 +10,7 @@ use Rattle.larq.specs.Events.{frame, asked, act-on}
 use Rattle.larq.specs.Table.{Key, sameKey, channels, Event, one, outcome}
 use Rattle.larq.specs.Demands.{UpFirst}
 use Rattle.larq.specs.Moving.{entered, Moves}
-use Rattle.record.specs.Place.{recordWith}
-use Rattle.record.specs.Place as place
+use Rattle.record.specs.Place.{cellsFrom, recordWith}
 use Rattle.place.specs.Call.{Buffers, buffers}
 use Rattle.table.specs.Table.{Slices, slices, part, placeOf, placesFrom, tableOf}
 use Rattle.table_calls.specs.Event.{eventOf}
@@ -36,7 +35,7 @@ abbrev broken : Channel ℕ
 broken = record { current = 5000; oldest = 5001; latest = 0; cells = [] }
 
 twice : channels key (tableOf handed-in) ≡ behind-11 ∷ (broken ∷ [])
-unfolding placesFrom placeOf part recordWith place.window sameKey
+unfolding placesFrom placeOf part recordWith cellsFrom sameKey
 twice = refl
 
 abbrev arrives : ℕ → Event ℕ
@@ -44,7 +43,7 @@ arrives n = eventOf key 104 (frame n 5) handed-in room-for-all
 
 -- 11 comes at last: it goes up first, and 12 after it
 filled-content : outcome window (tableOf handed-in) (arrives 11) .answer ≡ record { number = 0; up = 5 ∷ (2 ∷ []); returned = []; nack = []; lost = 0 }
-unfolding outcome one sound act-on asked side distance placesFrom placeOf part recordWith place.window sameKey
+unfolding outcome one sound act-on asked side distance placesFrom placeOf part recordWith cellsFrom sameKey
 filled-content = refl
 
 pub lent-at-once-met : UpFirst 5 (outcome window (tableOf handed-in) (arrives 11))
@@ -52,7 +51,7 @@ lent-at-once-met = lent-at-once handed-in (arrives 11) behind-11 (broken ∷ [])
 
 -- a jump of 64: 33 numbers are lost, 12 goes up, and 45 to 75 are asked for
 jump-content : outcome window (tableOf handed-in) (arrives 76) .answer ≡ record { number = 0; up = 2 ∷ []; returned = []; nack = rising 45 31; lost = 33 }
-unfolding outcome one sound act-on asked side distance placesFrom placeOf part recordWith place.window sameKey
+unfolding outcome one sound act-on asked side distance placesFrom placeOf part recordWith cellsFrom sameKey
 jump-content = refl
 
 pub lent-moves-met : (d : Channel ℕ) × Moves behind-11 (entered window behind-11 104 (frame 76 5)) 63 (outcome window (tableOf handed-in) (arrives 76) .answer) d

@@ -139,7 +139,7 @@ module _ (keys W H M : List ℕ) (b : Buffers) (k : Key) (time : ℕ) (act : Act
       let lm = km ∙ ap length (lent-part 32 i M) ∙ length-part 32 i M marks-fit in
       let d = done keys′ w h m b′ given lw lh lm after-keys (rule .change) refl after-keys (c .became) in
       record {
-        answered = rw is-rule (c .answered);
+        answer = rw is-rule (c .answer);
         stepped = d .stepped;
         changed = rw (is-rule, here) (d .changed);
         elsewhere = λ j _ ne. elsewhere keys′ w h m b′ given lw lh lm after-keys j (λ q. ne (here ∙ ap At (sym q)));

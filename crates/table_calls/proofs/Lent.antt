@@ -24,7 +24,7 @@ use Rattle.larq.proofs.Moved.{moves, none-given-up}
 use Rattle.larq.proofs.AtOnce.{at-once}
 use Rattle.larq.proofs.Bounds.{bounded}
 use Rattle.record.specs.Place.{cellAt, spanOf, recordWith, recordOf}
-use Rattle.record.proofs.Windows.{length-window}
+use Rattle.record.proofs.Windows.{length-cells-from}
 use Rattle.place.specs.Call.{Buffers}
 use Rattle.place.specs.declared.Answer.{Answer}
 use Rattle.table.specs.First.{places}
@@ -36,13 +36,13 @@ module _ (words handles marks : List ℕ) where
   -- 'for each number from M to C whether it waits .. or is missing': it has as many cells as its span says.
   pub lent-span : length (recordOf words handles marks .cells) ≡ span (recordOf words handles marks)
   unfolding recordWith
-  lent-span = length-window (cellAt words handles marks) (getD words 1 0) (spanOf (getD words 0 0) (getD words 1 0)) ∙ omega arith
+  lent-span = length-cells-from (cellAt words handles marks) (getD words 1 0) (spanOf (getD words 0 0) (getD words 1 0)) ∙ omega arith
 
   -- and they end at C.
   pub lent-joined : Joined (recordOf words handles marks)
   unfolding recordWith
   lent-joined =
-      ap (forward (getD words 1 0)) (length-window (cellAt words handles marks) (getD words 1 0) (spanOf (getD words 0 0) (getD words 1 0)))
+      ap (forward (getD words 1 0)) (length-cells-from (cellAt words handles marks) (getD words 1 0) (spanOf (getD words 0 0) (getD words 1 0)))
       ∙ forward-steps (getD words 1 0) (getD words 0 0 + 1)
 
   -- 'A record is broken if ..': one that is not is good.
@@ -177,7 +177,7 @@ pub counts-bounded : (e : Event ℕ) (before after : Slices) (had has : Buffers)
     → (given .up ≤ 32) × (given .returned ≤ 31) × (given .nack ≤ 32)
 counts-bounded e before after had has given d =
     let most = lent-bounded before e in (
-      omega (arith, d .answered .up .count, most .up),
-      omega (arith, d .answered .returned .count, most .returned),
-      omega (arith, d .answered .nack .count, most .nack),
+      omega (arith, d .answer .up .count, most .up),
+      omega (arith, d .answer .returned .count, most .returned),
+      omega (arith, d .answer .nack .count, most .nack),
     )

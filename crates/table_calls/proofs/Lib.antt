@@ -2,7 +2,7 @@ pub mod Zeroing
 pub mod Telling
 pub mod Showing
 pub mod Viewing
-pub mod Settled
+pub mod OneOutcome
 pub mod Ruled
 pub mod Keyed
 pub mod Promised

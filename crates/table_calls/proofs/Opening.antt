@@ -12,8 +12,7 @@ use Rattle.larq.specs.Channel.{window}
 use Rattle.larq.specs.Answer.{holds, accepted}
 use Rattle.larq.specs.Events.{frame, opened}
 use Rattle.larq.specs.Table.{Key, held, Event, outcome}
-use Rattle.record.specs.Place.{spanOf, recordWith, recordOf}
-use Rattle.record.specs.Place as place
+use Rattle.record.specs.Place.{cellsFrom, spanOf, recordWith, recordOf}
 use Rattle.place.specs.Call.{buffers, Says}
 use Rattle.place.specs.declared.Answer.{Answer}
 use Rattle.table.specs.First.{places, firstPlace, storesNone}
@@ -36,7 +35,7 @@ no-span : (s : ℕ) → s ≤ 4095 → spanOf s (next s) ≡ 0
 no-span s h = omega arith
 
 opened-record : (c m t : ℕ) (w h k : List ℕ) → c ≤ 4095 → m ≡ next c → recordWith c m t w h k ≡ opened c t
-unfolding recordWith place.window
+unfolding recordWith cellsFrom
 opened-record c m t w h k fits e = rw (e, no-span c fits)
 
 module _ (words : List ℕ) (i s time : ℕ) (l : length words ≡ 2240) (h : i < places) where
@@ -123,7 +122,7 @@ module _ (keys W H M U R N : List ℕ) (k : Key) (time s handle : ℕ)
   pub opened-did : (given : Answer) → Says 0 1 0 0 0 given → Did e before after (buffers U R N) (buffers (set U 0 handle) R N) given
   opened-did given plain =
       record {
-        answered =
+        answer =
             rw is-open
             (record {
               number = plain .number;

@@ -29,7 +29,7 @@ pub refused-did : (e : Event ℕ) (s : Slices) (b : Buffers) (n : ℕ) (given : 
 unfolding step
 refused-did e s b n given o plain =
     record {
-      answered =
+      answer =
           rw o
           (record {
             number = plain .number;

@@ -15,7 +15,7 @@ use Rattle.record.specs.Place.{recordOf, placeSized}
 use Rattle.place.specs.Call.{Parts, parts, Buffers, eventAt, ruleAt}
 use Rattle.table.specs.First.{places, firstPlace}
 use Rattle.table.specs.Table.{Slices, part, placeAt, placesFrom, tableOf}
-use Rattle.table.specs.Way.{judged}
+use Rattle.table.specs.Way.{earlyNumber}
 use Rattle.table.specs.Addressed.{isOf, isFree}
 use Rattle.table_calls.specs.Event.{eventOf}
 use Rattle.table.specs.declared.lookup.Found.the-variants.{At, Nothing}
@@ -45,8 +45,8 @@ module _ (s : Slices) (b : Buffers) (k : Key) (time : ℕ) (act : Act ℕ) (numb
   abbrev t : Table ℕ
   t = tableOf s
 
-  pub early-refused : (n : ℕ) → judged (e .lent) number (k .priority) ≡ n → (n ≡ 0 → ⊥) → outcome window t e ≡ refused n
-  unfolding judged outcome one
+  pub early-refused : (n : ℕ) → earlyNumber (e .lent) number (k .priority) ≡ n → (n ≡ 0 → ⊥) → outcome window t e ≡ refused n
+  unfolding earlyNumber outcome one
   early-refused n j ne =
       rw numbered
       (decided refused (lentEnough window (e .lent)) (leb number 4095) (priorityFits k) (drop 3 (refusals window (room t) (channels k t) e))

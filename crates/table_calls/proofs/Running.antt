@@ -39,7 +39,7 @@ runs (call {s = s} {m = m} {x = x} {e = e} {es = es} had has given d cs) = runs 
 pub hears : {s x : Slices} {es : List (Event ℕ)} {rs : List (rule.Answer ℕ)} → Calls s es rs x → rs ≡ answers window (tableOf s) es
 hears none = refl
 hears (call {s = s} {m = m} {x = x} {e = e} {es = es} {rs = rs} had has given d cs) =
-    ap₂ {C = List (rule.Answer ℕ)} (λ r l. r ∷ l) (heard-is (outcome window (tableOf s) e) had has given (d .answered))
+    ap₂ {C = List (rule.Answer ℕ)} (λ r l. r ∷ l) (heard-is (outcome window (tableOf s) e) had has given (d .answer))
     (hears cs ∙ ap (λ (t : Table ℕ). answers window t es) (d .stepped))
 
 -- from a table that `empty` has cleared: the run is one from the empty table, no record is ever broken, and no key stands twice

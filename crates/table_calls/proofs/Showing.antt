@@ -9,13 +9,12 @@ use lib.Seq.{sets}
 use Rattle.ring.specs.Ring.{forward, steps}
 use Rattle.larq.specs.Channel.{window, sound}
 use Rattle.larq.proofs.Sound.{Sound, sound-is}
-use Rattle.record.specs.Place.{cellAt, spanOf, recordWith, recordOf, soundAt}
-use Rattle.record.specs.Place as place
+use Rattle.record.specs.Place.{cellsFrom, cellAt, spanOf, recordWith, recordOf, soundAt}
 use Rattle.record.specs.Buffers.{Laid}
 use Rattle.record.proofs.Laying.{wrote-front}
 use Rattle.judging.proofs.Sounds.{sound-handles}
 use Rattle.judging.proofs.Sounds.{sound-by-sizes}
-use Rattle.record.proofs.Windows.{length-window}
+use Rattle.record.proofs.Windows.{length-cells-from}
 use Rattle.table_calls.specs.Look.{shownAt, cellMark, cellValue, Looked}
 use Rattle.table_calls.specs.declared.looking.View.{View}
 
@@ -52,19 +51,19 @@ module _ (w h k X Y : List ℕ) (lw : length w ≡ 35) (lk : length k ≡ 32) wh
     unfolding recordWith
     fits =
         let s = is-sound in
-        record { current = s .current; oldest = s .oldest; short = rw (length-window (cellAt w h k) (getD w 1 0) span) at (s .short) }
+        record { current = s .current; oldest = s .oldest; short = rw (length-cells-from (cellAt w h k) (getD w 1 0) span) at (s .short) }
 
     pub span-is : (n f : ℕ) → n ≡ steps (getD w 1 0) f → f ≡ forward (getD w 0 0) 1 → n ≡ span
     span-is n f n-is f-is = omega (arith, n-is, f-is)
 
     pub looked : (n : ℕ) (X′ Y′ : List ℕ) → n ≡ span → 32 ≤ length X → 32 ≤ length Y
-        → X′ ≡ sets X 0 (map cellMark (place.window (cellAt w h k) (getD w 1 0) n)) → Y′ ≡ sets Y 0 (map cellValue (place.window (cellAt w h k) (getD w 1 0) n))
+        → X′ ≡ sets X 0 (map cellMark (cellsFrom (cellAt w h k) (getD w 1 0) n)) → Y′ ≡ sets Y 0 (map cellValue (cellsFrom (cellAt w h k) (getD w 1 0) n))
         → (given : View) → (given .number ≡ 0) × (given .current ≡ getD w 0 0) × (given .oldest ≡ getD w 1 0) × (given .latest ≡ getD w 2 0) × (given .span ≡ n)
         → Looked (shownAt (recordOf w h k)) X X′ Y Y′ given
     unfolding recordWith
     looked n X′ Y′ n-is roomX roomY eX eY given g =
-        let cells = place.window (cellAt w h k) (getD w 1 0) n in
-        let many : length cells ≡ n = length-window (cellAt w h k) (getD w 1 0) n in
+        let cells = cellsFrom (cellAt w h k) (getD w 1 0) n in
+        let many : length cells ≡ n = length-cells-from (cellAt w h k) (getD w 1 0) n in
         let short = fits .short in
         rw (sounds true e, ← n-is)
         (record {

@@ -10,16 +10,16 @@ use lib.ListN.{length, getD, set, length-set}
 use lib.Seq.{sets}
 use Rattle.ring.specs.Ring.{next}
 use Rattle.larq.specs.Channel.{Cell, waits, missing}
-use Rattle.record.specs.Place.{window, cellAt}
+use Rattle.record.specs.Place.{cellsFrom, cellAt}
 use Rattle.record.proofs.Laying.{sets-more}
-use Rattle.record.proofs.Windows.{window-none, window-suc}
+use Rattle.record.proofs.Windows.{cells-from-none, cells-from-suc}
 use Rattle.table_calls.specs.Look.{cellMark}
 
 -- one buffer, which takes a number for each cell
 pub record Tells (say : Cell ℕ → ℕ) (cell : ℕ → Cell ℕ) (m n : ℕ) (before now : List ℕ) (i left to : ℕ) : Type 0 where
   pub count : to + left ≡ n
   pub sized : length now ≡ length before
-  pub rest : sets now to (map say (window cell i left)) ≡ sets before 0 (map say (window cell m n))
+  pub rest : sets now to (map say (cellsFrom cell i left)) ≡ sets before 0 (map say (cellsFrom cell m n))
 
 pub tells-start : (say : Cell ℕ → ℕ) (cell : ℕ → Cell ℕ) (m n : ℕ) (before : List ℕ) → Tells say cell m n before before m n 0
 tells-start say cell m n before = record { count = omega arith; sized = refl; rest = refl }
@@ -32,13 +32,13 @@ module _ {say : Cell ℕ → ℕ} {cell : ℕ → Cell ℕ} {m n : ℕ} {before 
         count = omega (arith, t .count);
         sized = simp length-set (t .sized);
         rest =
-            sets-more now to v (map say (window cell i′ (left - 1)))
-            ∙ rw (told, at-slot, on) (ap (λ (l : List (Cell ℕ)). sets now to (map say l)) (sym (window-suc cell i left some)))
+            sets-more now to v (map say (cellsFrom cell i′ (left - 1)))
+            ∙ rw (told, at-slot, on) (ap (λ (l : List (Cell ℕ)). sets now to (map say l)) (sym (cells-from-suc cell i left some)))
             ∙ t .rest;
       }
 
-  pub tells-end : left ≤ 0 → now ≡ sets before 0 (map say (window cell m n))
-  tells-end done = sym (ap (λ (l : List (Cell ℕ)). sets now to (map say l)) (window-none cell i left (omega arith))) ∙ t .rest
+  pub tells-end : left ≤ 0 → now ≡ sets before 0 (map say (cellsFrom cell m n))
+  tells-end done = sym (ap (λ (l : List (Cell ℕ)). sets now to (map say l)) (cells-from-none cell i left (omega arith))) ∙ t .rest
 
 -- whether a number waits is told by its mark alone
 pub mark-alone : (w h k : List ℕ) (j : ℕ) → cellMark (cellAt [] [] k j) ≡ cellMark (cellAt w h k j)

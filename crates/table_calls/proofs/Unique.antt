@@ -62,8 +62,8 @@ pub unique : (e : Event ℕ) (before x y : Slices) (had has having : Buffers) (r
 unique e before x y had has having r q f g =
     let o = outcome window (tableOf before) e in
     record {
-      answer = same-answers o had has having r q (f .answered) (g .answered);
-      buffers = same-buffers o had has having r q (f .answered) (g .answered);
+      answer = same-answers o had has having r q (f .answer) (g .answer);
+      buffers = same-buffers o had has having r q (f .answer) (g .answer);
       table = f .stepped ∙ sym (g .stepped);
       place = changed-alike (o .change) (addressed (e .key) before) (e .key) before x y (f .changed) (g .changed);
       elsewhere = λ j h ne. f .elsewhere j h ne ∙ sym (g .elsewhere j h ne);
@@ -73,7 +73,7 @@ unique e before x y had has having r q f g =
 pub untouched : (e : Event ℕ) (before x : Slices) (had has : Buffers) (r : Answer) (n : ℕ)
     → Did e before x had has r → outcome window (tableOf before) e ≡ refused n → (x ≡ before) × (has ≡ had)
 untouched e before x had has r n f o =
-    let answered : Answered (refused n) had has r = rw o at (f .answered) in (
+    let answered : Answered (refused n) had has r = rw o at (f .answer) in (
       rw o at (f .changed),
       λ i. record { up = answered .up .buffer i; returned = answered .returned .buffer i; nack = answered .nack .buffer i },
     )

@@ -14,7 +14,7 @@ use Rattle.record.specs.Place.{recordOf}
 use Rattle.table.specs.First.{places, stores}
 use Rattle.table.specs.Key.{firstWord}
 use Rattle.table.specs.Table.{Slices, slices, part, placeAt, tableOf}
-use Rattle.table.specs.Way.{lentOf, judged, placeFor}
+use Rattle.table.specs.Way.{tableLent, earlyNumber, placeFor}
 use Rattle.table_calls.specs.Look.{unseen, shownAt, shownFirst, shownOf, lentFor, Looked}
 use Rattle.table_calls.specs.declared.looking.View.{View}
 use Rattle.table.specs.declared.lookup.Found.the-variants.{At, Nothing}
@@ -37,17 +37,17 @@ module _ (keys W H M X Y : List ℕ) (k : Key) where
   s = slices keys W H M
 
   abbrev l : Lent
-  l = lentOf (length keys) (length W) (length H) (length M) (length X) (length Y) (length Y)
+  l = tableLent (length keys) (length W) (length H) (length M) (length X) (length Y) (length Y)
 
   abbrev pub wayTo : Way
-  wayTo = wayBy (judged l 0 (k .priority)) (placeFor keys k)
+  wayTo = wayBy (earlyNumber l 0 (k .priority)) (placeFor keys k)
 
   lent-is : lentFor s X Y ≡ lentEnough window l
   lent-is = rw (and-self (leb 32 (length Y)))
 
   -- a number before the table is looked at
-  early : (n : ℕ) → judged l 0 (k .priority) ≡ n → (n ≡ 0 → ⊥) → shownOf (lentFor s X Y) k (tableOf s) ≡ unseen n
-  unfolding judged
+  early : (n : ℕ) → earlyNumber l 0 (k .priority) ≡ n → (n ≡ 0 → ⊥) → shownOf (lentFor s X Y) k (tableOf s) ≡ unseen n
+  unfolding earlyNumber
   early n j ne = rw lent-is (go (lentEnough window l) (priorityFits k) j)
     where
       go : (a b : Bool) → _≡_ {A = ℕ} (cond a (cond b 0 3) 1) n → cond a (cond b (shownFirst (channels k (tableOf s))) (unseen 3)) (unseen 1) ≡ unseen n
@@ -79,7 +79,7 @@ module _ (keys W H M X Y : List ℕ) (k : Key) where
   turned-looked w n given by to g =
       rw
       (⊎-elim (λ p. early n (p .0) (λ z. p .1 (p .0 ∙ z))) (λ p. unknown (judged-passed l 0 (k .priority) (p .0)) (p .1) ∙ ap unseen (sym (p .2)))
-      (refused-way (judged l 0 (k .priority)) (placeFor keys k) n (sym by ∙ to)))
+      (refused-way (earlyNumber l 0 (k .priority)) (placeFor keys k) n (sym by ∙ to)))
       (unseen-looked n X Y given g)
 
   -- what the look at one place asks
@@ -92,8 +92,8 @@ module _ (keys W H M X Y : List ℕ) (k : Key) where
     pub values-room : 32 ≤ length Y
 
   module _ (w : Way) (i : ℕ) (by : w ≡ wayTo) (to : w ≡ Way.Known i) where
-    at : (judged l 0 (k .priority) ≡ 0) × (placeFor keys k ≡ At i)
-    at = known-way (judged l 0 (k .priority)) (placeFor keys k) i (sym by ∙ to)
+    at : (earlyNumber l 0 (k .priority) ≡ 0) × (placeFor keys k ≡ At i)
+    at = known-way (earlyNumber l 0 (k .priority)) (placeFor keys k) i (sym by ∙ to)
 
     pub goes : Goes i
     goes =

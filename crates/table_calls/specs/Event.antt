@@ -12,7 +12,7 @@ use Rattle.place.specs.declared.Answer.{Answer}
 use Rattle.table.specs.Addressed.{addressed}
 use Rattle.table.specs.First.{places}
 use Rattle.table.specs.Table.{Slices, atPlace, placeAt, tableOf, zeros}
-use Rattle.table.specs.Way.{lentOf}
+use Rattle.table.specs.Way.{tableLent}
 use Rattle.table.specs.declared.lookup.Found.{Found}
 use Rattle.table.specs.declared.lookup.Found.the-variants.{At, Nothing}
 
@@ -23,7 +23,7 @@ eventOf k time act s b =
       key = k;
       time = time;
       act = act;
-      lent = lentOf (length (s .keys)) (length (s .words)) (length (s .handles)) (length (s .marks)) (length (b .up)) (length (b .returned)) (length (b .nack));
+      lent = tableLent (length (s .keys)) (length (s .words)) (length (s .handles)) (length (s .marks)) (length (b .up)) (length (b .returned)) (length (b .nack));
     }
 
 -- what becomes of the slices by a change: they are untouched; or the addressed place holds the record; or it is zeros
@@ -37,7 +37,7 @@ Changed freed Nothing k before after = ⊥
 -- a call: number, counts, lists and lost count are the rule's for the table at entry; the table at exit is the rule's step; the addressed
 -- place changed as the rule says, and every other place keeps its very words
 pub record Did (event : Event ℕ) (before after : Slices) (had has : Buffers) (given : Answer) : Type 0 where
-  pub answered : Answered (outcome window (tableOf before) event) had has given
+  pub answer : Answered (outcome window (tableOf before) event) had has given
   pub stepped : tableOf after ≡ step window (tableOf before) event
   pub changed : Changed (outcome window (tableOf before) event .change) (addressed (event .key) before) (event .key) before after
   pub elsewhere : (j : ℕ) → j < places → (addressed (event .key) before ≡ At j → ⊥) → atPlace j after ≡ atPlace j before

@@ -23,12 +23,12 @@ pub record Shown : Type 0 where
 abbrev pub unseen : ℕ → Shown
 unseen n = record { number = n; current = 0; oldest = 0; latest = 0; cells = [] }
 
-abbrev pub told : Channel ℕ → Shown
-told c = record { number = 0; current = c .current; oldest = c .oldest; latest = c .latest; cells = c .cells }
+abbrev pub shownSound : Channel ℕ → Shown
+shownSound c = record { number = 0; current = c .current; oldest = c .oldest; latest = c .latest; cells = c .cells }
 
 -- a record by itself: number 6 where it is broken
 abbrev pub shownAt : Channel ℕ → Shown
-shownAt c = cond (sound window c) (told c) (unseen 6)
+shownAt c = cond (sound window c) (shownSound c) (unseen 6)
 
 -- the first of a key's records, or number 4 where it has none
 abbrev pub shownFirst : List (Channel ℕ) → Shown

@@ -5,8 +5,7 @@ ghost use mathlib.Core.List.{[], map};
 ghost use lib.ListN.{length};
 ghost use lib.Seq.{sets};
 ghost use Rattle.larq.specs.Channel.{window};
-ghost use Rattle.record.specs.Place as place;
-ghost use Rattle.record.specs.Place.{cellAt, recordOf};
+ghost use Rattle.record.specs.Place.{cellsFrom, cellAt, recordOf};
 ghost use Rattle.table.specs.Key.{keyOf};
 ghost use Rattle.table.specs.Table.{slices, tableOf};
 ghost use Rattle.table_calls.specs.Look.{shownAt, shownOf, lentFor, cellMark, cellValue, Looked};
@@ -74,9 +73,9 @@ fn tell(
     requires { ⌜ (length (now words) ≡ 35) × (length (now handles) ≡ 32) × (length (now marks) ≡ 32) ⌝ }
     requires { ⌜ (n ≤ length (now waits)) × (n ≤ length (now values)) ⌝ }
     ensures { λ _. ⌜ now (waits .exit)
-        ≡ sets (now (waits .entry)) 0 (map cellMark (place.window (cellAt (now (words .entry)) (now (handles .entry)) (now (marks .entry))) (from .0) n)) ⌝ }
+        ≡ sets (now (waits .entry)) 0 (map cellMark (cellsFrom (cellAt (now (words .entry)) (now (handles .entry)) (now (marks .entry))) (from .0) n)) ⌝ }
     ensures { λ _. ⌜ now (values .exit)
-        ≡ sets (now (values .entry)) 0 (map cellValue (place.window (cellAt (now (words .entry)) (now (handles .entry)) (now (marks .entry))) (from .0) n)) ⌝ }
+        ≡ sets (now (values .entry)) 0 (map cellValue (cellsFrom (cellAt (now (words .entry)) (now (handles .entry)) (now (marks .entry))) (from .0) n)) ⌝ }
 {
     let mut i = from;
     let mut left = n;

@@ -10,4 +10,4 @@ pub mod Laid
 pub mod AllBelow
 pub mod Table
 pub mod Parts
-pub mod Settled
+pub mod OneOutcome

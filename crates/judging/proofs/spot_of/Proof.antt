@@ -67,7 +67,7 @@ returns-4 : tie.Need-returns-4
 returns-4 c =
     record {
       behind = behind (c .before .before);
-      known = inl (rw (c .before .before .before .before .before .before .before .before .before .before .span .ensures, c .before .steps2 .ensures) at (c .if4 .taken));
+      unwanted = inl (rw (c .before .before .before .before .before .before .before .before .before .before .span .ensures, c .before .steps2 .ensures) at (c .if4 .taken));
     }
 
 -- past the test of the window
@@ -92,7 +92,7 @@ returns-6 : tie.Need-returns-6
 returns-6 c =
     record {
       behind = behind (c .before .before .before .before .before);
-      known = inr (within (c .before .before .before), rw (c .before .octet .ensures, c .before .before .slot .ensures) at (c .if5 .left));
+      unwanted = inr (within (c .before .before .before), rw (c .before .octet .ensures, c .before .before .slot .ensures) at (c .if5 .left));
     }
 
 pub spot-of-spec : {M : Type 1} → statement M

@@ -6,9 +6,9 @@ use Rattle.ring.specs.Ring.{seen, Ahead}
 use Rattle.larq.specs.Channel.{window, reach}
 use Rattle.judging.specs.Judge.{LiesAt}
 use Rattle.judging.specs.declared.Spot.{Spot}
-use Rattle.judging.specs.declared.Spot.the-variants.{Next, Missing, Known, Far}
+use Rattle.judging.specs.declared.Spot.the-variants.{Next, Missing, Unwanted, Far}
 use Rattle.place.proofs.Opening.{ahead-some, ahead-frame}
-use Rattle.place_frame.proofs.Frames.{frame-next, frame-ahead, frame-missing, frame-known, frame-far}
+use Rattle.place_frame.proofs.Frames.{frame-next, frame-ahead, frame-missing, frame-unwanted, frame-far}
 use borrow.Author.Needs.{needs}
 use Rattle.place_frame.proofs.arrive.Statement.{statement}
 use Rattle.place_frame.proofs.arrive.Tie as tie
@@ -160,7 +160,7 @@ returns-4 c =
     let a = at-entry l .args in
     let p = at-entry l .pre in
     let e = c .before .before .before .before .sent-back .ensures in
-    frame-known (a .s .0) (a .handle) (a .time) (p .0 .0) (a .up .now) (a .returned .now) (a .nack .now) (lies l Known (c .before .before .before .before .before .before .before .enum-told3 .given .1))
+    frame-unwanted (a .s .0) (a .handle) (a .time) (p .0 .0) (a .up .now) (a .returned .now) (a .nack .now) (lies l Unwanted (c .before .before .before .before .before .before .before .enum-told3 .given .1))
     (omega (arith, p .1 .1)) (e .0) (e .1) (e .2)
 
 same-length-16 : tie.Need-same-length-16

@@ -17,7 +17,7 @@ use Rattle.ring.proofs.Distance.is_far.Reads as is-far-reads
 use Rattle.ring.proofs.Seq.distance.Reads as distance-reads
 use Rattle.ring.proofs.Seq.steps.Reads as steps-reads
 use Rattle.place_upkeep.proofs.act.noted.Reads as noted-reads
-use Rattle.place_upkeep.proofs.act.told.Reads as told-reads
+use Rattle.place_upkeep.proofs.act.reminded.Reads as reminded-reads
 
 abbrev at-entry : tie.After-steps → tie.Start
 at-entry c = c .before .before .before .before .before .before .before .before .before .before .before .before .before .before .before .before .before
@@ -67,8 +67,8 @@ returns-2 c =
 steps-requires : tie.Need-steps-requires
 steps-requires c κs = search needs
 
-told-requires : tie.Need-told-requires
-told-requires c κs =
+reminded-requires : tie.Need-reminded-requires
+reminded-requires c κs =
     let e = c .before .before .before .before .before .before .before .before .before .before .before .before .before .before .before .before .before in
     let a = e .args in
     (e .pre .0, (e .pre .1, ahead-reminder (a .r .current .0) (a .s .0) _ (ahead-by c)))
@@ -95,7 +95,7 @@ returns-3 : tie.Need-returns-3
 returns-3 c =
     let e = c .before .before .before .before .before .before .before .before .before .before .before .before .before .before .before .before .before .before .before .before .before .before .before .before .before .before .before in
     let a = e .args in
-    reminder-ahead (e .pre .0 .0) (a .time) (a .s .0) (ahead-by (c .before .before .before .before .before .before .before .before .before .before)) (c .before .before .before .before .before .before .before .before .before .told .ensures) (c .accepted .ensures)
+    reminder-ahead (e .pre .0 .0) (a .time) (a .s .0) (ahead-by (c .before .before .before .before .before .before .before .before .before .before)) (c .before .before .before .before .before .before .before .before .before .reminded .ensures) (c .accepted .ensures)
 
 pub remind-spec : {M : Type 1} → statement M
 remind-spec =
@@ -110,7 +110,7 @@ remind-spec =
     same-length
     returns-2
     steps-requires
-    told-requires
+    reminded-requires
     accepted-requires
     same-length-2
     same-length-3

@@ -4,7 +4,7 @@ use borrow.Author.Needs.{needs}
 use denote.Ref.{now}
 use lib.ListN.{length}
 use Rattle.table.specs.First.{firstPlace, stores, storesNone}
-use Rattle.table.specs.Way.{lentOf, judged, dataWaySays, dataWayFor}
+use Rattle.table.specs.Way.{tableLent, earlyNumber, dataWaySays, dataWayFor}
 use Rattle.table.specs.declared.way.Way.{Way}
 use Rattle.table.specs.declared.way.DataWay.{DataWay}
 use Rattle.table.proofs.Ways.{wayBy, dataWayBy, keys-sized, unknown-way, data-known, data-refused, data-opens}
@@ -19,20 +19,20 @@ way-of-requires c κs = search needs
 abbrev way : tie.Start → Way
 way c =
     let a = c .args in
-    wayBy (judged (lentOf (length (now (a .keys))) (a .words) (a .handles) (a .marks) (a .up) (a .returned) (a .nack)) (a .number) (a .priority))
+    wayBy (earlyNumber (tableLent (length (now (a .keys))) (a .words) (a .handles) (a .marks) (a .up) (a .returned) (a .nack)) (a .number) (a .priority))
     (firstPlace (stores (now (a .keys)) (a .first) (a .second)))
 
 taken : (c : tie.After-way-of) → c .way-of .result ≡ way (c .before .before)
 taken c =
     let a = c .before .before .args in
-    said-way (lentOf (length (now (a .keys))) (a .words) (a .handles) (a .marks) (a .up) (a .returned) (a .nack)) (a .number) (a .priority)
+    said-way (tableLent (length (now (a .keys))) (a .words) (a .handles) (a .marks) (a .up) (a .returned) (a .nack)) (a .number) (a .priority)
     (firstPlace (stores (now (a .keys)) (a .first) (a .second))) _ (c .way-of .ensures)
 
 -- what the way of data says that follows from it
 says : (c : tie.Start) (w : DataWay) → let a = c .args in
     w ≡ dataWayBy (way c) (firstPlace (storesNone (now (a .keys))))
     → dataWaySays w
-    ≡ dataWayFor (lentOf (length (now (a .keys))) (a .words) (a .handles) (a .marks) (a .up) (a .returned) (a .nack)) (a .number) (a .priority)
+    ≡ dataWayFor (tableLent (length (now (a .keys))) (a .words) (a .handles) (a .marks) (a .up) (a .returned) (a .nack)) (a .number) (a .priority)
     (firstPlace (stores (now (a .keys)) (a .first) (a .second))) (firstPlace (storesNone (now (a .keys))))
 says c w e = ap dataWaySays e ∙ data-way-says _ _ _ _ _
 
@@ -50,7 +50,7 @@ returns c =
 find-free-requires : tie.Need-find-free-requires
 find-free-requires c κs =
     let a = c .before .before .before .before .before .before .args in
-    let lent = lentOf (length (now (a .keys))) (a .words) (a .handles) (a .marks) (a .up) (a .returned) (a .nack) in
+    let lent = tableLent (length (now (a .keys))) (a .words) (a .handles) (a .marks) (a .up) (a .returned) (a .nack) in
     keys-sized (length (now (a .keys))) (a .words) (a .handles) (a .marks) (a .up) (a .returned) (a .nack) (a .number) (a .priority)
     (unknown-way lent (a .number) (a .priority) _ _ (sym (taken (c .before .before .before .before)) ∙ c .before .before .way2 .given .1) (c .if1 .left) .0)
 

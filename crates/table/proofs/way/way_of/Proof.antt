@@ -1,10 +1,10 @@
--- `way_of` meets its contract: a number from `judge` decides; else the keys have their 128 words and the lookup decides.
+-- `way_of` meets its contract: a number from `early-refusal` decides; else the keys have their 128 words and the lookup decides.
 use mathlib.Core.Path.{_≡_, ap, sym, _∙_}
 use borrow.Author.Needs.{needs}
 use denote.Ref.{now}
 use lib.ListN.{length}
 use Rattle.table.specs.First.{firstPlace, stores}
-use Rattle.table.specs.Way.{lentOf, judged, waySays, wayFor}
+use Rattle.table.specs.Way.{tableLent, earlyNumber, waySays, wayFor}
 use Rattle.table.specs.declared.way.Way.{Way}
 use Rattle.table.proofs.Ways.{wayBy, keys-sized, way-early, way-none, way-known}
 use Rattle.table.proofs.Saying.{way-says}
@@ -13,20 +13,20 @@ use Rattle.table.proofs.way.way_of.Tie as tie
 
 -- what the way says that the number and the place lead to
 says : (c : tie.Start) (w : Way) → let a = c .args in
-    let l = lentOf (length (now (a .keys))) (a .words) (a .handles) (a .marks) (a .up) (a .returned) (a .nack) in
+    let l = tableLent (length (now (a .keys))) (a .words) (a .handles) (a .marks) (a .up) (a .returned) (a .nack) in
     let place = firstPlace (stores (now (a .keys)) (a .first) (a .second)) in
-    w ≡ wayBy (judged l (a .number) (a .priority)) place → waySays w ≡ wayFor l (a .number) (a .priority) place
+    w ≡ wayBy (earlyNumber l (a .number) (a .priority)) place → waySays w ≡ wayFor l (a .number) (a .priority) place
 says c w e = ap waySays e ∙ way-says _ _ _ _
 
-judge-requires : tie.Need-judge-requires
-judge-requires c κs = search needs
+early-refusal-requires : tie.Need-early-refusal-requires
+early-refusal-requires c κs = search needs
 
 returns : tie.Need-returns
-returns c = says (c .before .before .before) _ (way-early _ _ _ (c .before .judge .ensures) (c .if1 .taken))
+returns c = says (c .before .before .before) _ (way-early _ _ _ (c .before .early-refusal .ensures) (c .if1 .taken))
 
 passes : (c : tie.Else1) → let a = c .before .before .before .args in
-    judged (lentOf (length (now (a .keys))) (a .words) (a .handles) (a .marks) (a .up) (a .returned) (a .nack)) (a .number) (a .priority) ≡ 0
-passes c = sym (c .before .judge .ensures) ∙ c .if1 .left
+    earlyNumber (tableLent (length (now (a .keys))) (a .words) (a .handles) (a .marks) (a .up) (a .returned) (a .nack)) (a .number) (a .priority) ≡ 0
+passes c = sym (c .before .early-refusal .ensures) ∙ c .if1 .left
 
 find-requires : tie.Need-find-requires
 find-requires c κs =
@@ -50,4 +50,4 @@ returns-3 c =
     (way-known _ _ _ (passes (c .before .before .before .before)) (sym (c .before .before .before .find .ensures) ∙ c .before .i .given .1))
 
 pub way-of-spec : {M : Type 1} → statement M
-way-of-spec = tie.close (tie.spec judge-requires returns find-requires enum-known-i enum-told returns-2 returns-3)
+way-of-spec = tie.close (tie.spec early-refusal-requires returns find-requires enum-known-i enum-told returns-2 returns-3)

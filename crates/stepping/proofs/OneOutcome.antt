@@ -6,7 +6,7 @@ use mathlib.Core.Bool.{Bool, true, false}
 use mathlib.Core.List.{List}
 use Rattle.record.specs.Walk.{waitingOf}
 use Rattle.record.specs.declared.Record.{Record}
-use Rattle.record.proofs.Settled.{grown-settled, hand-settled}
+use Rattle.record.proofs.OneOutcome.{one-grown, one-hand}
 use Rattle.stepping.specs.Step.{canStep, Widened, Unwidened, Widens}
 use Rattle.stepping.specs.declared.Passed.{Passed}
 
@@ -31,9 +31,9 @@ module _ (r : Record) (s made time : ℕ) (W H K U Q w w′ k k′ u u′ q q′
 
   taken-alike : Widened r s made time W H K U Q w k u q p → Widened r s made time W H K U Q w′ k′ u′ q′ p′ → SameStep w w′ k k′ u u′ q q′ p p′
   taken-alike a b =
-      let g : p .grown ≡ p′ .grown = grown-settled r s made time (p .grown) (p′ .grown) (a .grown) (b .grown) in
+      let g : p .grown ≡ p′ .grown = one-grown r s made time (p .grown) (p′ .grown) (a .grown) (b .grown) in
       let missed = rw (sym g) at (b .missed) in
-      let laid = hand-settled (waitingOf H K (r .oldest .0) (p .grown .old)) 0 U u u′ (p .had .up) (p′ .had .up) (a .handed) (rw (sym g) at (b .handed)) in
+      let laid = one-hand (waitingOf H K (r .oldest .0) (p .grown .old)) 0 U u u′ (p .had .up) (p′ .had .up) (a .handed) (rw (sym g) at (b .handed)) in
       record {
         words = a .missed .words ∙ sym (missed .words);
         marks = a .missed .marks ∙ sym (missed .marks);
@@ -42,8 +42,8 @@ module _ (r : Record) (s made time : ℕ) (W H K U Q w w′ k k′ u u′ q q′
         passed = rw (a .asked, b .asked, a .lost, b .lost, laid .0, g) refl;
       }
 
-  pub widened-settled : Widens r s made time W H K U Q w k u q p → Widens r s made time W H K U Q w′ k′ u′ q′ p′ → SameStep w w′ k k′ u u′ q q′ p p′
-  widened-settled a b = go (canStep r s made W H K U Q) refl
+  pub one-widened : Widens r s made time W H K U Q w k u q p → Widens r s made time W H K U Q w′ k′ u′ q′ p′ → SameStep w w′ k k′ u u′ q q′ p p′
+  one-widened a b = go (canStep r s made W H K U Q) refl
     where
       go : (c : Bool) → canStep r s made W H K U Q ≡ c → SameStep w w′ k k′ u u′ q q′ p p′
       go true e = taken-alike (a .taken e) (b .taken e)

@@ -8,13 +8,13 @@ use Rattle.table_calls.specs.Look.{Shown, Looked}
 use Rattle.table.specs.Table.{Slices}
 use Rattle.table_calls.specs.declared.looking.View.{View}
 
-pub look-settled : {shown : Shown} {waited waits waits′ valued values values′ : List ℕ} {a b : View} → Looked shown waited waits valued values a
+pub one-look : {shown : Shown} {waited waits waits′ valued values values′ : List ℕ} {a b : View} → Looked shown waited waits valued values a
     → Looked shown waited waits′ valued values′ b → (a ≡ b) × (waits ≡ waits′) × (values ≡ values′)
-look-settled u v = (
+one-look u v = (
   rw (u .number, v .number, u .current, v .current, u .oldest, v .oldest, u .latest, v .latest, u .span, v .span) refl,
   u .marks ∙ sym (v .marks),
   u .cells ∙ sym (v .cells),
 )
 
-pub empty-settled : {before after after′ : Slices} {a b : ℕ} → Emptied before after a → Emptied before after′ b → (a ≡ b) × (after ≡ after′)
-empty-settled u v = (u .number ∙ sym (v .number), u .table ∙ sym (v .table))
+pub one-empty : {before after after′ : Slices} {a b : ℕ} → Emptied before after a → Emptied before after′ b → (a ≡ b) × (after ≡ after′)
+one-empty u v = (u .number ∙ sym (v .number), u .table ∙ sym (v .table))

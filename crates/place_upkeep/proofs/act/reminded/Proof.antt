@@ -1,14 +1,14 @@
--- `told` meets its contract: what `widened` and `settle` leave is handed to the laws of the step ahead (StepAhead of channel).
+-- `reminded` meets its contract: what `widened` and `settle` leave is handed to the laws of the step ahead (StepAhead of channel).
 use Prim.Native.Nat.{ℕ, _≤_, _<_}
 use mathlib.Core.Path.{refl}
 use native.Mathlib.Omega.{arith}
 use Rattle.place.proofs.Places.{finished}
 use Rattle.place.proofs.StepAhead.{stepped, widened-sized, settle-room, gone-few, ahead-did}
 use borrow.Author.Needs.{needs}
-use Rattle.place_upkeep.proofs.act.told.Statement.{statement}
-use Rattle.place_upkeep.proofs.act.told.Tie as tie
-use Rattle.place_upkeep.proofs.act.told.Reads as reads
-use Rattle.place_upkeep.proofs.act.told.Lts as lts
+use Rattle.place_upkeep.proofs.act.reminded.Statement.{statement}
+use Rattle.place_upkeep.proofs.act.reminded.Tie as tie
+use Rattle.place_upkeep.proofs.act.reminded.Reads as reads
+use Rattle.place_upkeep.proofs.act.reminded.Lts as lts
 use Rattle.record.proofs.Record.settle.Reads as settle-reads
 use Rattle.stepping.proofs.widened.Reads as widened-reads
 
@@ -54,8 +54,8 @@ returns c =
     ahead-did (p .0 .0) (p .0 .1) (p .1 .1) (p .1 .0 .0) (p .1 .0 .1) wide refl refl
     (finished (widened-sized (p .0 .0) (p .0 .1) (p .1 .1) (p .1 .0 .0) (p .1 .0 .1) wide) (settle-room (p .0 .0) (p .0 .1) (p .1 .1) (p .1 .0 .0) (p .1 .0 .1) wide refl refl) (e .0) (e .1))
 
-pub told-spec : {M : Type 1} → statement M
-told-spec =
+pub reminded-spec : {M : Type 1} → statement M
+reminded-spec =
     tie.close
     (tie.spec
     widened-requires

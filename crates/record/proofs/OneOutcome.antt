@@ -11,8 +11,8 @@ use Rattle.record.specs.declared.Record.{Record}
 use Rattle.record.specs.declared.Grown.{Grown}
 use Rattle.record.specs.declared.window.Settled.{Settled}
 
-pub grown-settled : (r : Record) (s made time : ℕ) (g f : Grown) → IsGrown r s made time g → IsGrown r s made time f → g ≡ f
-grown-settled r s made time g f u v =
+pub one-grown : (r : Record) (s made time : ℕ) (g f : Grown) → IsGrown r s made time g → IsGrown r s made time f → g ≡ f
+one-grown r s made time g f u v =
     rw (
       u .old,
       v .old,
@@ -31,13 +31,13 @@ grown-settled r s made time g f u v =
     )
     refl
 
-pub hand-settled : (list : List ℕ) (at : ℕ) (before after after′ : List ℕ) (end end′ : ℕ) → Laid list at before after end → Laid list at before after′ end′
+pub one-hand : (list : List ℕ) (at : ℕ) (before after after′ : List ℕ) (end end′ : ℕ) → Laid list at before after end → Laid list at before after′ end′
     → (end ≡ end′) × (after ≡ after′)
-hand-settled list at before after after′ end end′ u v = (u .end-is ∙ sym (v .end-is), u .buffer ∙ sym (v .buffer))
+one-hand list at before after after′ end end′ u v = (u .end-is ∙ sym (v .end-is), u .buffer ∙ sym (v .buffer))
 
-pub settle-settled : (r : Record) (n until : ℕ) (w h k : List ℕ) (at : ℕ) (before after after′ : List ℕ) (s t : Settled)
+pub one-settle : (r : Record) (n until : ℕ) (w h k : List ℕ) (at : ℕ) (before after after′ : List ℕ) (s t : Settled)
     → Settles r n until w h k at before after s → Settles r n until w h k at before after′ t → (s ≡ t) × (after ≡ after′)
-settle-settled r n until w h k at before after after′ s t u v =
-    let laid = hand-settled (walkFrom until w h k (r .oldest .0) n .up) at before after after′ (at + s .up) (at + t .up) (u .up) (v .up) in
+one-settle r n until w h k at before after after′ s t u v =
+    let laid = one-hand (walkFrom until w h k (r .oldest .0) n .up) at before after after′ (at + s .up) (at + t .up) (u .up) (v .up) in
     let up : s .up ≡ t .up = omega (arith, laid .0) in
     (rw (up, u .lost, v .lost, u .oldest, v .oldest, u .current, v .current, u .latest, v .latest) refl, laid .1)
