@@ -6,9 +6,9 @@ use mathlib.Core.Path.{_≡_, refl, sym, ap, _∙_}
 use mathlib.Core.List.{List}
 use lib.ListN.{getD}
 use Rattle.rate.specs.declared.Request as inner
-use Rattle.rate.specs.declared.Reading as inner-reading
+use Rattle.rate_reader.specs.declared.Reading as inner-reading
 use Rattle.rate.specs.declared.Written as inner-written
-use Rattle.rate.specs.Reading.{readOf}
+use Rattle.rate_reader.specs.Reading.{readOf}
 use Rattle.rate.specs.Writing.{Wrote}
 use Rattle.rate.proofs.Settled.{write-settled}
 use Rattle.pik_rate.specs.declared.requests.Address.{Address}

@@ -2,7 +2,7 @@
 use Prim.Native.Nat.{ℕ}
 use mathlib.Core.List.{List, [], _∷_}
 use Rattle.rate.specs.declared.Request as inner
-use Rattle.rate.specs.declared.Reading as inner-reading
+use Rattle.rate_reader.specs.declared.Reading as inner-reading
 use Rattle.rate.specs.declared.Written as inner-written
 use Rattle.pik_rate.specs.declared.requests.Address.{Address}
 use Rattle.pik_rate.specs.declared.requests.Request.{Request}

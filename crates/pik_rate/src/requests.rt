@@ -2,7 +2,7 @@
 ghost use mathlib.Core.Path.{_≡_};
 ghost use mathlib.Core.Option.{Option·getD};
 ghost use Rattle.rate.specs.Rates.{rateOf, chosenOf};
-ghost use Rattle.rate.specs.Reading.{readOf};
+ghost use Rattle.rate_reader.specs.Reading.{readOf};
 ghost use Rattle.rate.specs.Writing.{Wrote};
 ghost use Rattle.pik_rate.specs.Requests.{octetsOf, requestOf, readingOf, writtenOf};
 
@@ -104,7 +104,7 @@ fn request_for(q: rate::Request) -> Request
 pub extern "C" fn pik_rate_read(frame: &[u8]) -> Reading
     ensures { λ r. ⌜ readingOf r ≡ readOf (now (frame .entry)) ⌝ }
 {
-    let reading = rate::read(frame);
+    let reading = rate_reader::read(frame);
     let request = reading.request;
     Reading {
         number: reading.number,

@@ -1,4 +1,3 @@
-pub mod Accepted
 pub mod Frame
 pub mod Writable
 pub mod Tabled

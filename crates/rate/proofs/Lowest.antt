@@ -1,20 +1,16 @@
--- The chosen band is the one of lowest rank among those whose PE is not 0, and an accepted frame has one, with a rate.
+-- The chosen band is the one of lowest rank among those whose PE is not 0, and a request with right PEs has one, with a rate.
 -- Document 01, 'Rate of a PE'. Assumes nothing.
 use mathlib.Core.Path.{_≡_, refl}
 use mathlib.Core.Bool.{Bool, true, false, cond, _&&_}
-use mathlib.Core.List.{List}
 use mathlib.Core.Option.{none, some, IsSome}
-use Prim.Native.Nat.{ℕ, _+_, _*_, _-_, _≤_, _<_}
+use Prim.Native.Nat.{ℕ, _+_, _*_, _-_, _≤_}
 use native.Mathlib.Omega.{arith}
-use borrow.Author.Tests.{eqb-true, eqb-false, ltb-true, ltb-false, leb-true, lt-leb}
-use lib.Dec.{eqb, ltb, leb, lit<}
-use Rattle.wire.specs.Refusals.{first}
+use borrow.Author.Tests.{eqb-true, eqb-false, ltb-true, ltb-false, leb-true}
+use lib.Dec.{eqb, ltb, leb}
 use Rattle.wire.proofs.Joined.{and-left}
 use Rattle.rate.specs.declared.Request.{Request}
 use Rattle.rate.specs.Request.{bandOneRight, bandTwoRight}
-use Rattle.rate.specs.Reading.{bandsOf, ofBandTwo, requestOf, refusals}
 use Rattle.rate.specs.Rates.{rateOf, chosenOf, rateOfBand}
-use Rattle.rate.proofs.Accepted.{passed}
 
 -- PE and rank of a band by its number
 abbrev pub peOf : Request → ℕ → ℕ
@@ -70,7 +66,7 @@ rate-two bands pe e b z = let high : (leb 9 pe && leb pe 15) ≡ true = rw (b, z
     by-test true high = tt
     by-test false high = rw high tt
 
-some-rate : (q : Request) → bandOneRight (q .pe1) ≡ true → bandTwoRight (q .bands) (q .pe2) ≡ true → (ltb (q .bands) 2 ≡ true → q .pe2 ≡ 0) → IsSome (rateOfBand q (chosenOf q))
+pub some-rate : (q : Request) → bandOneRight (q .pe1) ≡ true → bandTwoRight (q .bands) (q .pe2) ≡ true → (ltb (q .bands) 2 ≡ true → q .pe2 ≡ 0) → IsSome (rateOfBand q (chosenOf q))
 unfolding chosenOf
 some-rate q one two absent = by-tests (eqb (q .pe1) 0) (eqb (q .pe2) 0) (ltb (q .rank2) (q .rank1)) (ltb (q .bands) 2) refl refl refl
   where
@@ -81,10 +77,3 @@ some-rate q one two absent = by-tests (eqb (q .pe1) 0) (eqb (q .pe2) 0) (ltb (q 
     by-tests false false true true ea eb em = absurd (eqb-false (q .pe2) 0 eb (absent em))
     by-tests false false true false ea eb em = rate-two (q .bands) (q .pe2) two em eb
     by-tests false false false m ea eb em = rate-one (q .pe1) one
-
-pub accepted-rate : (s : List ℕ) → first (refusals s) ≡ 0 → IsSome (rateOfBand (requestOf s) (chosenOf (requestOf s)))
-unfolding requestOf refusals ofBandTwo
-accepted-rate s clear = some-rate (requestOf s) (passed s clear 8 (lit< tt)) (passed s clear 9 (lit< tt)) absent
-  where
-    absent : ltb (bandsOf s) 2 ≡ true → ofBandTwo s 22 ≡ 0
-    absent b = let t : leb 2 (bandsOf s) ≡ false = lt-leb 2 (bandsOf s) (ltb-true (bandsOf s) 2 b) in simp t

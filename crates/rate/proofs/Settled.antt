@@ -1,32 +1,16 @@
--- Any two outcomes that a contract of this crate allows are equal; of octets handed back, as wire's Settled.antt says it.
+-- Any two outcomes that a contract of this crate allows are equal. The contracts of the rules are equations.
 -- Assumes nothing.
 use mathlib.Core.Path.{_≡_, refl, sym, _∙_}
 use mathlib.Core.List.{List}
 use Prim.Native.Nat.{ℕ}
-use denote.Ref.{RefT}
-use Rattle.wire.proofs.OneOutcome.{one-value, SamePart, one-part}
 use Rattle.rate.specs.declared.Request.{Request}
-use Rattle.rate.specs.declared.Reading.{Reading}
 use Rattle.rate.specs.declared.Written.{Written}
-use Rattle.rate.specs.declared.reader.Received.{Received}
 use Rattle.rate.specs.declared.rates.Rate.{Rate}
 use Rattle.rate.specs.declared.rates.Rate.the-variants as rate
 use Rattle.rate.specs.declared.rates.Chosen.{Chosen}
 use Rattle.rate.specs.declared.rates.Chosen.the-variants as chosen
-use Rattle.rate.specs.Reading.{readOf}
-use Rattle.rate.specs.Receiving.{Receives}
 use Rattle.rate.specs.Writing.{Wrote}
 use Rattle.rate.specs.Rates.{rateOf, mbitOf, chosenOf, bandOf, rateOfBand}
-
-pub read-settled : (s : List ℕ) {r t : Reading} → r ≡ readOf s → t ≡ readOf s → r ≡ t
-read-settled s p q = one-value (readOf s) p q
-
-pub record SameReceived (r t : Received) : Type 0 where
-  pub reading : r .reading ≡ t .reading
-  pub addresses : SamePart (r .addresses) (t .addresses)
-
-pub receive-settled : (frame : RefT (List ℕ)) {r t : Received} → Receives frame r → Receives frame t → SameReceived r t
-receive-settled frame p q = record { reading = p .reading ∙ sym (q .reading); addresses = one-part frame _ _ (p .addresses) (q .addresses) }
 
 pub write-settled : (q : Request) (a before : List ℕ) {after after′ : List ℕ} {r t : Written} → Wrote q a before after r → Wrote q a before after′ t → (r ≡ t) × (after ≡ after′)
 write-settled q a before v w = (v .answer ∙ sym (w .answer), v .output ∙ sym (w .output))

@@ -2,25 +2,25 @@
 ghost use mathlib.Core.Path.{_≡_};
 ghost use Rattle.rate.specs.Request.{opcodeRight, someBand, bandOneRight, bandTwoRight, ranksRight, groupAddresses};
 
-pub(crate) fn opcode_right(opcode: u8) -> bool
+pub fn opcode_right(opcode: u8) -> bool
     ensures { λ r. ⌜ r ≡ opcodeRight opcode ⌝ }
 {
     opcode <= 2
 }
 
-pub(crate) fn some_band(bands: u8) -> bool
+pub fn some_band(bands: u8) -> bool
     ensures { λ r. ⌜ r ≡ someBand bands ⌝ }
 {
     bands != 0
 }
 
-pub(crate) fn band_one_right(pe: u8) -> bool
+pub fn band_one_right(pe: u8) -> bool
     ensures { λ r. ⌜ r ≡ bandOneRight pe ⌝ }
 {
     wire::between(pe as usize, 1, 7)
 }
 
-pub(crate) fn band_two_right(bands: u8, pe: u8) -> bool
+pub fn band_two_right(bands: u8, pe: u8) -> bool
     ensures { λ r. ⌜ r ≡ bandTwoRight bands pe ⌝ }
 {
     if bands < 2 {
@@ -29,13 +29,13 @@ pub(crate) fn band_two_right(bands: u8, pe: u8) -> bool
     pe == 0 || wire::between(pe as usize, 9, 15)
 }
 
-pub(crate) fn ranks_right(bands: u8, rank1: u8, rank2: u8) -> bool
+pub fn ranks_right(bands: u8, rank1: u8, rank2: u8) -> bool
     ensures { λ r. ⌜ r ≡ ranksRight bands rank1 rank2 ⌝ }
 {
     rank1 != 0 && (bands < 2 || (rank2 != 0 && rank1 != rank2))
 }
 
-pub(crate) fn group_addresses(addresses: &[u8]) -> bool
+pub fn group_addresses(addresses: &[u8]) -> bool
     ensures { λ r. ⌜ r ≡ groupAddresses (now (addresses .entry)) ⌝ }
 {
     let count = addresses.len() / 6;

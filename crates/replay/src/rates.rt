@@ -18,7 +18,7 @@ pub(crate) fn answer(line: &mut Line, at: usize, event: Body, rest: &[u8]) -> us
 
 // Reads a frame. The addresses are the frame's own octets.
 fn read(line: &mut Line, start: usize, frame: &[u8]) -> usize {
-    let reading = rate::read(frame);
+    let reading = rate_reader::read(frame);
     let request = reading.request;
     let first = reading.start;
     let extent = reading.extent;

@@ -19,13 +19,13 @@ use Rattle.wire.proofs.Joined.{and-left, and-right}
 use Rattle.wire.proofs.Octets.{octetsFrom, take-octets, six-within, length-six}
 use Rattle.wire.proofs.Within.{le-within}
 use Rattle.rate.specs.declared.Request.{Request}
-use Rattle.rate.specs.declared.Reading.{Reading}
+use Rattle.rate_reader.specs.declared.Reading.{Reading}
 use Rattle.rate.specs.declared.Written.{Written}
 use Rattle.rate.specs.Request.{someBand}
-use Rattle.rate.specs.Reading.{bandsOf, countOf, ofBandTwo, startOf, extentOf, addressesOf, requestOf, ssTypeRight, ssVersionRight, refusals, refusedBy, accepted, readOf}
+use Rattle.rate_reader.specs.Reading.{bandsOf, countOf, ofBandTwo, startOf, extentOf, addressesOf, requestOf, ssTypeRight, ssVersionRight, refusals, refusedBy, accepted, readOf}
 use Rattle.rate.specs.Writing.{ssLengthFor, fixedPart, bandPart, headerFor, frameFor, absentBandEmpty, layoutHolds, outputHolds, writerRefusals, writeOf, outputOf, Wrote}
 use Rattle.roundtrip.specs.Trip.{WrittenAgain}
-use Rattle.rate.proofs.Accepted.{passed, header-within, lengths-agree}
+use Rattle.rate_reader.proofs.Accepted.{passed, header-within, lengths-agree}
 use Rattle.rate.proofs.Frame.{length-frame}
 
 module _ (s : List ℕ) (none : first (refusals s) ≡ 0) (two : bandsOf s ≤ 2) (octet : ssLength s ≤ 255) where

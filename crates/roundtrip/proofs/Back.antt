@@ -18,10 +18,10 @@ use Rattle.wire.proofs.Joined.{and-left, and-right, and-both}
 use Rattle.wire.proofs.Octets.{octet-behind, six-front, six-behind}
 use Rattle.wire.proofs.Within.{le-within}
 use Rattle.rate.specs.declared.Request.{Request}
-use Rattle.rate.specs.declared.Reading.{Reading}
+use Rattle.rate_reader.specs.declared.Reading.{Reading}
 use Rattle.rate.specs.declared.Written.{Written}
 use Rattle.rate.specs.Request.{opcodeRight, someBand, bandOneRight, bandTwoRight, ranksRight, groupAddresses}
-use Rattle.rate.specs.Reading.{opcodeOf, bandsOf, countOf, ofBandTwo, startOf, extentOf, addressesOf, requestOf, lengthFits, ssTypeRight, ssLengthFits, ssVersionRight, lengthsAgree, refusals, refusedBy, accepted, readOf}
+use Rattle.rate_reader.specs.Reading.{opcodeOf, bandsOf, countOf, ofBandTwo, startOf, extentOf, addressesOf, requestOf, lengthFits, ssTypeRight, ssLengthFits, ssVersionRight, lengthsAgree, refusals, refusedBy, accepted, readOf}
 use Rattle.rate.specs.Writing.{ssLengthFor, fixedPart, bandPart, headerFor, frameFor, absentBandEmpty, writerRefusals, Wrote}
 use Rattle.rate.proofs.Frame.{length-bands, length-header}
 use Rattle.rate.proofs.Writable.{may-write, may-layout, some-band, Accepted, Refused, wrote-either}

@@ -3,7 +3,7 @@ use mathlib.Core.Path.{refl}
 use Rattle.wire.specs.Octets.{sixAt, within, partAt, allBelow}
 use Rattle.wire.specs.ShortFormat.{ethertypeRight, nextEthertypeZero}
 use Rattle.rate.specs.Request.{opcodeRight, someBand, bandOneRight, bandTwoRight, ranksRight, groupAddresses}
-use Rattle.rate.specs.Reading.{ofBandTwo, startOf, extentOf, addressesOf, requestOf, lengthFits, ssTypeRight, ssLengthFits, ssVersionRight, lengthsAgree, refusals, accepted, readOf}
+use Rattle.rate_reader.specs.Reading.{ofBandTwo, startOf, extentOf, addressesOf, requestOf, lengthFits, ssTypeRight, ssLengthFits, ssVersionRight, lengthsAgree, refusals, accepted, readOf}
 use Rattle.rate.specs.Writing.{ssLengthFor, fixedPart, bandPart, headerFor, frameFor, absentBandEmpty, layoutHolds, outputHolds, writerRefusals, writeOf, outputOf}
 use Rattle.roundtrip.specs.Cases.{All, cases}
 

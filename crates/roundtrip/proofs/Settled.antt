@@ -4,7 +4,7 @@ use mathlib.Core.Path.{_≡_, sym, _∙_, ap}
 use mathlib.Core.List.{List}
 use Prim.Native.Nat.{ℕ}
 use Rattle.rate.specs.declared.Request.{Request}
-use Rattle.rate.specs.declared.Reading.{Reading}
+use Rattle.rate_reader.specs.declared.Reading.{Reading}
 use Rattle.rate.specs.declared.Written.{Written}
 use Rattle.rate.proofs.Settled.{write-settled}
 use Rattle.roundtrip.specs.declared.Trip.{Trip}

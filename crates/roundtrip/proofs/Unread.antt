@@ -19,8 +19,8 @@ use Rattle.wire.proofs.Octets.{six-within}
 use Rattle.wire.proofs.Within.{le-within}
 use Rattle.rate.specs.declared.Request.{Request}
 use Rattle.rate.specs.Request.{opcodeRight, someBand, bandOneRight, bandTwoRight, ranksRight, groupAddresses}
-use Rattle.rate.specs.Reading.{opcodeOf, bandsOf, countOf, pe1Of, rank1Of, pe2Of, rank2Of, ofBandTwo, startOf, extentOf, addressesOf, requestOf, lengthFits, ssTypeRight, ssLengthFits, ssVersionRight, lengthsAgree, refusals, refusedBy, givenOf, accepted, readOf}
-use Rattle.rate.proofs.Accepted.{passed, header-within, lengths-agree}
+use Rattle.rate_reader.specs.Reading.{opcodeOf, bandsOf, countOf, pe1Of, rank1Of, pe2Of, rank2Of, ofBandTwo, startOf, extentOf, addressesOf, requestOf, lengthFits, ssTypeRight, ssLengthFits, ssVersionRight, lengthsAgree, refusals, refusedBy, givenOf, accepted, readOf}
+use Rattle.rate_reader.proofs.Accepted.{passed, header-within, lengths-agree}
 
 -- t has a frame's length, the whole header of s, and its octets but for those of bands past the second
 module _ (s t : List ℕ) (clear : first (refusals s) ≡ 0) (fits : lengthFits t ≡ true) (header : headerLength s ≤ length t)

@@ -4,9 +4,9 @@ use mathlib.Core.Path.{_≡_}
 use mathlib.Core.List.{List, [], _∷_, _++_}
 use lib.ListN.{length, take, set, replicate}
 use Rattle.rate.specs.declared.Request.{Request}
-use Rattle.rate.specs.declared.Reading.{Reading}
+use Rattle.rate_reader.specs.declared.Reading.{Reading}
 use Rattle.rate.specs.declared.Written.{Written}
-use Rattle.rate.specs.Reading.{refusedBy, readOf}
+use Rattle.rate_reader.specs.Reading.{refusedBy, readOf}
 use Rattle.rate.specs.Writing.{writeOf, outputOf}
 use Rattle.roundtrip.specs.Trip.{asked}
 

@@ -8,8 +8,8 @@ use Rattle.wire.specs.Octets.{partAt}
 use Rattle.wire.specs.Refusals.{first, answered}
 use Rattle.wire.specs.ShortFormat.{headerLength}
 use Rattle.rate.specs.declared.Request.{Request}
-use Rattle.rate.specs.declared.Reading.{Reading}
-use Rattle.rate.specs.Reading.{bandsOf, refusals, refusedBy, readOf}
+use Rattle.rate_reader.specs.declared.Reading.{Reading}
+use Rattle.rate_reader.specs.Reading.{bandsOf, refusals, refusedBy, readOf}
 use Rattle.rate.specs.Writing.{writerRefusals, Wrote}
 use Rattle.roundtrip.specs.declared.Trip.{Trip}
 

@@ -1,7 +1,7 @@
 // The round trip of a rate request through the functions themselves, both ways (document 01, 'The rate request on the wire').
-use rate::Reading;
 use rate::Request;
 use rate::Written;
+use rate_reader::Reading;
 ghost use Rattle.roundtrip.specs.Trip.{ReadBack, WrittenAgain};
 
 // What the writer and the reader answered.
@@ -16,7 +16,7 @@ pub fn read_back(out: &mut [u8], request: Request, addresses: &[u8]) -> Trip
 {
     let written = rate::write(out, request, addresses);
     let count = written.count;
-    let reading = rate::read(&out[..count]);
+    let reading = rate_reader::read(&out[..count]);
     Trip { written, reading }
 }
 
@@ -24,7 +24,7 @@ pub fn read_back(out: &mut [u8], request: Request, addresses: &[u8]) -> Trip
 pub fn write_again(out: &mut [u8], frame: &[u8]) -> Trip
     ensures { λ r. ⌜ WrittenAgain (now (frame .entry)) (now (out .entry)) (now (out .exit)) r ⌝ }
 {
-    let reading = rate::read(frame);
+    let reading = rate_reader::read(frame);
     let request = reading.request;
     let start = reading.start;
     let extent = reading.extent;
