@@ -1,5 +1,5 @@
 -- Any two outcomes that a contract of this crate allows are equal. The structs of a rate request stand for what the library answers, and no two of them for the
--- same. The four events are settled by `unique` of table_calls, an emptied table and a look by its lemmas too, and the other contracts are equations.
+-- same. The other contracts are equations.
 -- Assumes nothing.
 use Prim.Native.Nat.{ℕ}
 use mathlib.Core.Path.{_≡_, refl, sym, ap, _∙_}
@@ -10,7 +10,7 @@ use Rattle.rate_reader.specs.declared.Reading as inner-reading
 use Rattle.rate.specs.declared.Written as inner-written
 use Rattle.rate_reader.specs.Reading.{readOf}
 use Rattle.rate.specs.Writing.{Wrote}
-use Rattle.rate.proofs.Settled.{write-settled}
+use Rattle.rate.proofs.OneOutcome.{one-write}
 use Rattle.pik_rate.specs.declared.requests.Address.{Address}
 use Rattle.pik_rate.specs.declared.requests.Request.{Request}
 use Rattle.pik_rate.specs.declared.requests.Reading.{Reading}
@@ -51,14 +51,14 @@ writtenFor w = record { number = w .number; count = w .count }
 reading-back : (r : Reading) → readingFor (readingOf r) ≡ r
 reading-back r = refl
 
-pub reading-settled : (s : List ℕ) (r t : Reading) → readingOf r ≡ readOf s → readingOf t ≡ readOf s → r ≡ t
-reading-settled s r t p q = sym (reading-back r) ∙ ap readingFor (p ∙ sym q) ∙ reading-back t
+pub one-reading : (s : List ℕ) (r t : Reading) → readingOf r ≡ readOf s → readingOf t ≡ readOf s → r ≡ t
+one-reading s r t p q = sym (reading-back r) ∙ ap readingFor (p ∙ sym q) ∙ reading-back t
 
 written-back : (w : Written) → writtenFor (writtenOf w) ≡ w
 written-back w = refl
 
-pub writing-settled : (q : Request) (a before : List ℕ) {after after′ : List ℕ} (r t : Written) → Wrote (requestOf q) a before after (writtenOf r)
+pub one-writing : (q : Request) (a before : List ℕ) {after after′ : List ℕ} (r t : Written) → Wrote (requestOf q) a before after (writtenOf r)
     → Wrote (requestOf q) a before after′ (writtenOf t) → (r ≡ t) × (after ≡ after′)
-writing-settled q a before r t v w =
-    let both = write-settled (requestOf q) a before v w in
+one-writing q a before r t v w =
+    let both = one-write (requestOf q) a before v w in
     (sym (written-back r) ∙ ap writtenFor (both .0) ∙ written-back t, both .1)

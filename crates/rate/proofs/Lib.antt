@@ -1,5 +1,5 @@
 pub mod Frame
 pub mod Writable
 pub mod Tabled
-pub mod Settled
+pub mod OneOutcome
 pub mod Lowest

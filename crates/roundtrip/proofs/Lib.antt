@@ -1,5 +1,5 @@
 pub mod Back
 pub mod Again
 pub mod Runs
-pub mod Settled
+pub mod OneOutcome
 pub mod Unread

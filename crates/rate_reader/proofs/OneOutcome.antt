@@ -10,12 +10,12 @@ use Rattle.rate_reader.specs.declared.reader.Received.{Received}
 use Rattle.rate_reader.specs.Reading.{readOf}
 use Rattle.rate_reader.specs.Receiving.{Receives}
 
-pub read-settled : (s : List ℕ) {r t : Reading} → r ≡ readOf s → t ≡ readOf s → r ≡ t
-read-settled s p q = one-value (readOf s) p q
+pub one-read : (s : List ℕ) {r t : Reading} → r ≡ readOf s → t ≡ readOf s → r ≡ t
+one-read s p q = one-value (readOf s) p q
 
 pub record SameReceived (r t : Received) : Type 0 where
   pub reading : r .reading ≡ t .reading
   pub addresses : SamePart (r .addresses) (t .addresses)
 
-pub receive-settled : (frame : RefT (List ℕ)) {r t : Received} → Receives frame r → Receives frame t → SameReceived r t
-receive-settled frame p q = record { reading = p .reading ∙ sym (q .reading); addresses = one-part frame _ _ (p .addresses) (q .addresses) }
+pub one-receive : (frame : RefT (List ℕ)) {r t : Received} → Receives frame r → Receives frame t → SameReceived r t
+one-receive frame p q = record { reading = p .reading ∙ sym (q .reading); addresses = one-part frame _ _ (p .addresses) (q .addresses) }
