@@ -11,8 +11,18 @@ use borrow.Author.Needs.{needs}
 use Rattle.rate.proofs.writer.put.Statement.{statement}
 use Rattle.rate.proofs.writer.put.Tie as tie
 
+-- the places, from the last run that is laid back to the start
+abbrev second : tie.After-lay3 → tie.After-lay2
+second c = c .before .before .before .before .before
+
+abbrev first : tie.After-lay3 → tie.After-lay
+first c = second c .before .before .before .before .before
+
+abbrev third : tie.After-lay4 → tie.After-lay3
+third c = c .before .before .before .before .before .before .before .before
+
 abbrev start : tie.After-lay4 → tie.Start
-start c = c .before .before .before .before .before .before .before .before .before .before .before .before .before .before .before .before .before .before .before .before .before .before .before .before .before .before
+start c = first (third c) .before .before .before .before .before .before .before .before
 
 six-destination : (c : tie.Start) → length (c .args .request .destination) ≡ 6
 six-destination c = search needs
@@ -26,9 +36,7 @@ unfolding fixedPart ssLengthFor
 laid c =
     let st = start c in
     laid-header (st .args .request) (now (st .args .addresses)) (six-destination st) (six-source st) (st .pre .two) (now (st .args .out)) (st .pre .room)
-    (c .before .before .before .before .before .before .before .before .before .before .before .before .before .before .before .before .before .before .lay .ensures)
-    (c .before .before .before .before .before .before .before .before .before .before .before .before .before .lay2 .ensures)
-    (c .before .before .before .before .before .before .before .before .lay3 .ensures)
+    (first (third c) .lay .ensures) (second (third c) .lay2 .ensures) (third c .lay3 .ensures)
     (c .before .before .before .before .lay-bands .ensures)
     (c .lay4 .ensures)
 

@@ -1,5 +1,5 @@
 -- `rate_reader::fields::addresses` meets its contract: NumAddr, and whether SSLength is what the three counts ask.
-use mathlib.Core.Path.{_≡_}
+use mathlib.Core.Path.{_≡_, refl}
 use Prim.Native.Nat.{_+_, _*_}
 use lib.Dec.{eqb}
 use denote.Ref.{now}
@@ -49,7 +49,7 @@ returns c =
     let number = c .before .before .before .octet in
     let length = c .before .before .octet2 in
     let bands = c .before .octet3 in
-    let t : eqb (length .result) (6 + 2 * bands .result + 6 * number .result) ≡ lengthsAgree s = cc in
+    let t : eqb (length .result) (6 + 2 * bands .result + 6 * number .result) ≡ lengthsAgree s = rw (length .ensures, bands .ensures, number .ensures) refl in
     field-ruled 17 (lengthsAgree s) (countOf s) (c .value-if .ensures) t (number .ensures)
 
 pub addresses-spec : {M : Type 1} → statement M

@@ -23,8 +23,9 @@ value-if-requires c κs = search needs
 returns : tie.Need-returns
 returns c =
     let s = now (c .before .before .before .before .before .args .frame) in
-    let t : c .before .band-two-right .result ≡ bandTwoRight (bandsOf s) (ofBandTwo s 22) = cc in
-    field-ruled 19 (bandTwoRight (bandsOf s) (ofBandTwo s 22)) (ofBandTwo s 22) (c .value-if .ensures) t (c .before .before .before .of-band-two .ensures)
+    let pe = c .before .before .before .of-band-two in
+    let t : c .before .band-two-right .result ≡ bandTwoRight (bandsOf s) (ofBandTwo s 22) = rw (← pe .ensures, ← c .before .before .octet .ensures) (c .before .band-two-right .ensures) in
+    field-ruled 19 (bandTwoRight (bandsOf s) (ofBandTwo s 22)) (ofBandTwo s 22) (c .value-if .ensures) t (pe .ensures)
 
 pub band-two-spec : {M : Type 1} → statement M
 band-two-spec =

@@ -1,10 +1,8 @@
 -- `rate_reader::fields::ranks` meets its contract: the two ranks read, and the rule's test of them.
-use mathlib.Core.Path.{_≡_}
-use mathlib.Core.Bool.{true, false}
+use mathlib.Core.Path.{_≡_, refl, sym, _∙_}
 use denote.Ref.{now}
-use Rattle.wire.specs.Octets.{octetAt}
 use Rattle.rate.specs.Request.{ranksRight}
-use Rattle.rate_reader.specs.Reading.{bandsOf, ofBandTwo}
+use Rattle.rate_reader.specs.Reading.{bandsOf, rank1Of, rank2Of}
 use borrow.Author.Needs.{needs}
 use Rattle.rate_reader.proofs.fields.ranks.Statement.{statement}
 use Rattle.rate_reader.proofs.fields.ranks.Tie as tie
@@ -21,19 +19,19 @@ octet-requires-2 c κs = search needs
 ranks-right-requires : tie.Need-ranks-right-requires
 ranks-right-requires c κs = search needs
 
+-- the test of the two ranks read is the rule's
+tested : (c : tie.After-ranks-right) → c .ranks-right .result ≡ (let s = now (c .before .before .before .before .before .args .frame) in ranksRight (bandsOf s) (rank1Of s) (rank2Of s))
+tested c = rw (← c .before .before .before .octet .ensures, ← c .before .before .of-band-two .ensures, ← c .before .octet2 .ensures) (c .ranks-right .ensures)
+
 returns : tie.Need-returns
 returns c =
-    let s = now (c .before .before .before .before .before .before .args .frame) in
-    let t : ranksRight (bandsOf s) (octetAt s 21) (ofBandTwo s 23) ≡ true = cc in
-    let a = c .before .before .before .before .octet .ensures in
-    let b = c .before .before .before .of-band-two .ensures in
-    simp (t, a, b)
+    let t = sym (tested (c .before)) ∙ c .if1 .taken in
+    rw (t, c .before .before .before .before .octet .ensures, c .before .before .before .of-band-two .ensures) refl
 
 returns-2 : tie.Need-returns-2
 returns-2 c =
-    let s = now (c .before .before .before .before .before .before .args .frame) in
-    let t : ranksRight (bandsOf s) (octetAt s 21) (ofBandTwo s 23) ≡ false = cc in
-    simp t
+    let t = sym (tested (c .before)) ∙ c .if1 .left in
+    rw t refl
 
 pub ranks-spec : {M : Type 1} → statement M
 ranks-spec =
