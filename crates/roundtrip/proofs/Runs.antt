@@ -10,4 +10,4 @@ use Rattle.roundtrip.specs.Cases.{All, cases}
 pub all-hold : All cases
 unfolding cases sixAt within partAt allBelow ethertypeRight nextEthertypeZero opcodeRight someBand bandOneRight bandTwoRight ranksRight groupAddresses ofBandTwo startOf extentOf addressesOf requestOf lengthFits ssTypeRight ssLengthFits ssVersionRight lengthsAgree refusals accepted readOf ssLengthFor fixedPart bandPart headerFor frameFor absentBandEmpty layoutHolds outputHolds writerRefusals writeOf outputOf
 all-hold =
-    (refl, ((refl, refl), ((refl, refl), ((refl, refl), (refl, (refl, (refl, (refl, (refl, (refl, (refl, (refl, (refl, (refl, (refl, (refl, (refl, (refl, (refl, (refl, (refl, (refl, (refl, (refl, (refl, (refl, ((refl, refl), ((refl, refl), ((refl, refl), ((refl, refl), ((refl, refl), ((refl, refl), ((refl, refl), ((refl, refl), ((refl, refl), ((refl, refl), ((refl, refl), ((refl, refl), ((refl, refl), tt)))))))))))))))))))))))))))))))))))))))
+    (refl, ((refl, refl), ((refl, refl), ((refl, refl), (refl, (refl, (refl, (refl, (refl, (refl, (refl, (refl, (refl, (refl, (refl, (refl, (refl, (refl, (refl, (refl, (refl, (refl, (refl, (refl, (refl, (refl, (refl, ((refl, refl), ((refl, refl), ((refl, refl), ((refl, refl), ((refl, refl), ((refl, refl), ((refl, refl), ((refl, refl), ((refl, refl), ((refl, refl), ((refl, refl), ((refl, refl), ((refl, refl), tt))))))))))))))))))))))))))))))))))))))))

@@ -105,6 +105,7 @@ cases =
     ∷ reads twoBands (asked two [])
     ∷ reads threeBands (asked (ask 0 3 4 1 9 2) [])
     -- where several numbers apply, the first in the paper's order
+    ∷ reads (set (set whole 14 2) 15 7) (refusedBy 12)
     ∷ reads (set (set whole 14 2) 16 1) (refusedBy 12)
     ∷ reads (set (set whole 20 0) 23 1) (refusedBy 18)
     -- each number of the writer, and its order: 23 comes before 18
