@@ -2,9 +2,10 @@
 -- far a statement has to reach'). The contract of `is_sound` is an equation. Assumes nothing.
 use Prim.Native.Nat.{ℕ}
 use mathlib.Core.Path.{_≡_, refl, ap, sym, _∙_}
-use mathlib.Core.Logic.{_⊎_, ⊎-elim}
+use mathlib.Core.Logic.{⊎-elim}
 use mathlib.Core.List.{List}
 use native.Mathlib.Omega.{arith}
+use Rattle.wire.proofs.Joined.{not-both}
 use Rattle.wire.specs.Refusals.{Refusal}
 use Rattle.ring.specs.Ring.{seen, Ahead, Far}
 use Rattle.larq.specs.Channel.{window, reach}
@@ -39,7 +40,7 @@ behind-far : (c s : ℕ) → BehindAt c s → seen (reach window) c s ≡ Far �
 behind-far c s b f = let g = sym (b .is) ∙ f in let z : _≡_ {A = ℕ} 0 1 = cc in omega arith
 
 missing-unwanted : (r : Record) (marks : List ℕ) (s : ℕ) → MissingAt r marks s → UnwantedAt r marks s → ⊥
-missing-unwanted r marks s m k = ⊎-elim (λ late. omega (arith, m .within, late)) (λ waits. waits .1 (m .marked)) (k .unwanted)
+missing-unwanted r marks s m k = ⊎-elim (λ late. omega (arith, m .within, late)) (λ waits. not-both _ (m .marked) (waits .1)) (k .unwanted)
 
 next-ahead : (r : Record) (s d : ℕ) → NextAt r s → AheadAt r s d → ⊥
 next-ahead r s d n a = a .other (n .oldest) (n .none)

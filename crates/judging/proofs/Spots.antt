@@ -5,7 +5,7 @@ use native.Mathlib.Omega.{arith}
 use Rattle.ring.specs.Ring.{steps}
 use Rattle.ring.proofs.Sides.{is-ahead}
 use Rattle.larq.specs.Channel as channel
-use Rattle.larq.specs.Channel.{reach}
+use Rattle.larq.specs.Channel.{reach, window}
 use Rattle.record.specs.Moving.{spanIn}
 use Rattle.record.specs.declared.Record.{Record}
 use Rattle.judging.specs.Judge.{NextAt}

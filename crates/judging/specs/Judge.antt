@@ -1,15 +1,16 @@
 -- What is decided of an event before anything is written. Document 01, 'Numbers the box may answer with'.
-use Prim.Native.Nat.{ℕ, _≤_, _<_, _%_}
+use Prim.Native.Nat.{ℕ, _≤_, _<_}
 use mathlib.Core.Path.{_≡_}
-use mathlib.Core.Bool.{Bool, _&&_}
+use mathlib.Core.Bool.{Bool, _&&_, true, false}
 use mathlib.Core.List.{List, [], _∷_}
 use mathlib.Core.Logic.{_⊎_}
-use lib.ListN.{length, getD}
+use lib.ListN.{length}
 use lib.Dec.{leb}
 use Rattle.wire.specs.Refusals.{Refusal, _else_, first}
 use Rattle.larq.specs.Channel.{window, reach, Cell, Channel, headMissing, times, orderly, sound}
 use Rattle.ring.specs.Ring.{isNumber, steps, seen, Ahead, Behind, Far}
 use Rattle.larq.specs.Table.{Lent, lentEnough, notBefore}
+use Rattle.slots.specs.Slots.{slotOf, currentIn, oldestIn, latestIn, isMissing}
 use Rattle.record.specs.Place.{cellsFrom, cellAt, spanOf, recordOf}
 use Rattle.record.specs.Moving.{spanIn}
 use Rattle.record.specs.declared.Record.{Record}
@@ -25,13 +26,13 @@ timesOf words marks m n = times (cellsFrom (cellAt words [] marks) m n)
 -- the parts of the test that a record is not broken: C and M are in the ring; the span is not above the window, M is missing if anything is,
 -- and the times of missing numbers are in order
 abbrev pub inRing : List ℕ → Bool
-inRing words = isNumber (getD words 0 0) && isNumber (getD words 1 0)
+inRing words = isNumber (currentIn words) && isNumber (oldestIn words)
 
 abbrev pub shapely : ℕ → List (Cell ℕ) → Bool
 shapely latest cells = leb (length cells) window && (headMissing cells && orderly 0 latest (times cells))
 
 abbrev pub inShape : ℕ → ℕ → List ℕ → List ℕ → Bool
-inShape c m words marks = shapely (getD words 2 0) (cellsFrom (cellAt words [] marks) m (spanOf c m))
+inShape c m words marks = shapely (latestIn words) (cellsFrom (cellAt words [] marks) m (spanOf c m))
 
 -- the tests that every event has, in the paper's order, with its number s
 abbrev pub common : Lent → ℕ → ℕ → Channel ℕ → List Refusal
@@ -47,9 +48,9 @@ pub record RefusedBy (tests : List Refusal) (number : ℕ) : Type 0 where
 -- all of them pass, and the record is at hand
 pub record OpenAt (tests : List Refusal) (words : List ℕ) (r : Record) : Type 0 where
   pub none : first tests ≡ 0
-  pub current : r .current .0 ≡ getD words 0 0
-  pub oldest : r .oldest .0 ≡ getD words 1 0
-  pub latest : r .latest ≡ getD words 2 0
+  pub current : r .current .0 ≡ currentIn words
+  pub oldest : r .oldest .0 ≡ oldestIn words
+  pub latest : r .latest ≡ latestIn words
 
 abbrev pub Judges : Lent → List ℕ → List ℕ → ℕ → ℕ → Judged → Type 0
 Judges lent words marks s time (Refused number) = RefusedBy (common lent s time (recordOf words [] marks)) number
@@ -63,11 +64,11 @@ pub record BehindAt (c s : ℕ) : Type 0 where
 pub record MissingAt (r : Record) (marks : List ℕ) (s : ℕ) : Type 0 where
   pub behind : BehindAt (r .current .0) s
   pub within : steps (r .oldest .0) s < spanIn r
-  pub marked : getD marks (s % 32) 0 ≡ 0
+  pub marked : isMissing marks (slotOf s) ≡ true
 
 pub record UnwantedAt (r : Record) (marks : List ℕ) (s : ℕ) : Type 0 where
   pub behind : BehindAt (r .current .0) s
-  pub unwanted : (spanIn r ≤ steps (r .oldest .0) s) ⊎ ((steps (r .oldest .0) s < spanIn r) × (getD marks (s % 32) 0 ≡ 0 → ⊥))
+  pub unwanted : (spanIn r ≤ steps (r .oldest .0) s) ⊎ ((steps (r .oldest .0) s < spanIn r) × isMissing marks (slotOf s) ≡ false)
 
 -- M, while nothing is missing
 pub record NextAt (r : Record) (s : ℕ) : Type 0 where

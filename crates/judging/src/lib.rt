@@ -2,53 +2,55 @@
 // Document 01, 'Numbers the box may answer with' and 'The channel table'.
 ghost use mathlib.Core.Path.{_≡_};
 ghost use Prim.Native.Nat.{_<_};
-ghost use lib.ListN.{length, getD};
+ghost use lib.ListN.{length};
 ghost use Rattle.larq.specs.Channel.{orderly};
+ghost use Rattle.ring.specs.Ring.{size};
+ghost use Rattle.slots.specs.Slots.{currentIn, oldestIn, latestIn};
 ghost use Rattle.record.specs.Place.{soundAt, placeLent};
 ghost use Rattle.judging.specs.Judge.{inRing, timesOf, inShape, Judges, LiesAt};
 use larq::WINDOW;
 use record::Record;
-use record::SLOTS;
-use record::WORDS;
 use record::lent_enough;
-use record::slot;
 use ring::Seq;
-use wire::octet;
+use slots::SLOTS;
+use slots::WORDS;
+use slots::current;
+use slots::is_missing;
+use slots::latest;
+use slots::oldest;
+use slots::time_of;
 
 // The record that a place's words hold.
 fn read(words: &[u64]) -> Record
-    requires { ⌜ (2 < length (now words)) × (getD (now words) 0 0 < 4096) × (getD (now words) 1 0 < 4096) ⌝ }
-    ensures { λ r. ⌜ (r .current .0 ≡ getD (now (words .entry)) 0 0) × (r .oldest .0 ≡ getD (now (words .entry)) 1 0) × (r .latest ≡ getD (now (words .entry)) 2 0) ⌝ }
+    requires { ⌜ (currentIn (now words) < size) × (oldestIn (now words) < size) ⌝ }
+    ensures { λ r. ⌜ (r .current .0 ≡ currentIn (now (words .entry))) × (r .oldest .0 ≡ oldestIn (now (words .entry))) × (r .latest ≡ latestIn (now (words .entry))) ⌝ }
 {
     Record {
-        current: Seq(words[0] as u16),
-        oldest: Seq(words[1] as u16),
-        latest: words[2],
+        current: Seq(current(words) as u16),
+        oldest: Seq(oldest(words) as u16),
+        latest: latest(words),
     }
 }
 
 // Whether C and M are numbers of the ring.
 fn in_ring(words: &[u64]) -> bool
-    requires { ⌜ 1 < length (now words) ⌝ }
     ensures { λ r. ⌜ r ≡ inRing (now (words .entry)) ⌝ }
 {
     let last = Seq::SIZE as u64 - 1;
-    (words[0] <= last) & (words[1] <= last)
+    (current(words) <= last) & (oldest(words) <= last)
 }
 
 // Whether the times of the missing among n numbers from `from` on do not fall, and none is later than the latest.
 // As they do not fall, the last of them is the latest of them.
 fn in_order(words: &[u64], marks: &[u8], from: Seq, n: u16) -> bool
-    requires { ⌜ (length (now words) ≡ 35) × (length (now marks) ≡ 32) ⌝ }
-    ensures { λ r. ⌜ r ≡ orderly 0 (getD (now (words .entry)) 2 0) (timesOf (now (words .entry)) (now (marks .entry)) (from .0) n) ⌝ }
+    ensures { λ r. ⌜ r ≡ orderly 0 (latestIn (now (words .entry))) (timesOf (now (words .entry)) (now (marks .entry)) (from .0) n) ⌝ }
 {
     let mut before: u64 = 0;
     let mut i = from;
     let mut left = n;
     while 0 < left {
-        let j = slot(i);
-        if marks[j] == 0 {
-            let t = words[3 + j];
+        if is_missing(marks, i) {
+            let t = time_of(words, i);
             if t < before {
                 return false;
             }
@@ -57,12 +59,11 @@ fn in_order(words: &[u64], marks: &[u8], from: Seq, n: u16) -> bool
         i = i.forward(1);
         left -= 1;
     }
-    before <= words[2]
+    before <= latest(words)
 }
 
 // Whether the window is not too wide, M is missing if anything is, and the times of missing numbers are in order.
 fn in_shape(r: Record, words: &[u64], marks: &[u8]) -> bool
-    requires { ⌜ (length (now words) ≡ 35) × (length (now marks) ≡ 32) ⌝ }
     ensures { λ b. ⌜ b ≡ inShape (r .current .0) (r .oldest .0) (now (words .entry)) (now (marks .entry)) ⌝ }
 {
     let n = r.span();
@@ -72,8 +73,7 @@ fn in_shape(r: Record, words: &[u64], marks: &[u8]) -> bool
     if WINDOW < n {
         return false;
     }
-    let j = slot(r.oldest);
-    if marks[j] != 0 {
+    if !is_missing(marks, r.oldest) {
         return false;
     }
     in_order(words, marks, r.oldest, n)
@@ -120,7 +120,7 @@ pub fn judge(
     if !is_sound(words, marks) {
         return Judged::Refused(6);
     }
-    if time < words[2] {
+    if time < latest(words) {
         return Judged::Refused(7);
     }
     Judged::Open(read(words))
@@ -155,8 +155,7 @@ pub fn spot_of(r: Record, marks: &[u8], s: Seq) -> Spot
     if n <= m.steps(s) {
         return Spot::Unwanted;
     }
-    let j = slot(s);
-    if octet(marks, j) == 0 {
+    if is_missing(marks, s) {
         Spot::Missing
     } else {
         Spot::Unwanted

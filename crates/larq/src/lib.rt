@@ -6,10 +6,13 @@ ghost use Rattle.larq.specs.Settling.{hold};
 // The waiting window: 32 numbers (document 01, 'Numbers in a ring of 4,096').
 pub const WINDOW: u16 = 32;
 
+// What an answer may need of a buffer: an entry for each number of the window (number 1).
+pub const ROOM: usize = WINDOW as usize;
+
 // How long a missing number is waited for: 150 ticks (document 01, 'Tick').
 pub const HOLD: u64 = 150;
 
-// The two constants are those of the rules.
+// The window and the hold time are those of the rules.
 pub fn window() -> u16
     ensures { λ r. ⌜ r ≡ window ⌝ }
 {

@@ -1,6 +1,6 @@
 -- A call on an open place, from what was decided and what was done: the rule for the event is the refusal by the number that was decided, or
 -- what the event does. Assumes nothing.
-use Prim.Native.Nat.{ℕ, _-_, _<_}
+use Prim.Native.Nat.{ℕ, _<_}
 use mathlib.Core.Path.{_≡_, refl, ap, _∙_, subst⁻¹}
 use mathlib.Core.Bool.{Bool, true, false, cond}
 use mathlib.Core.List.{List, [], _∷_}
@@ -8,11 +8,11 @@ use native.Mathlib.Omega.{arith}
 use lib.Dec.{leb}
 use Rattle.wire.specs.Refusals.{first, _else_}
 use Rattle.larq.specs.Channel as channel
-use Rattle.larq.specs.Channel.{Channel, sound}
+use Rattle.larq.specs.Channel.{Channel, sound, window}
 use Rattle.larq.specs.Answer.{Change, Outcome, refused}
 use Rattle.larq.specs.Events.{Act, act-on}
 use Rattle.larq.specs.Table.{one, lentEnough, numberInRing, notBefore, reminderNear}
-use Rattle.record.specs.Place.{cellsFrom, recordWith, recordOf}
+use Rattle.record.specs.Place.{recordWith, recordOf}
 use Rattle.place.specs.Call.{Buffers, Parts, buffers, Answered, Became, Says, DidAt, Called, ruleAt}
 use Rattle.place.specs.Steps.{lentAt}
 use Rattle.place.specs.declared.Answer.{Answer}

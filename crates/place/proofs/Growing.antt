@@ -6,7 +6,7 @@ use mathlib.Core.Path.{_≡_, refl, ap, ap₂, sym, _∙_}
 use mathlib.Core.Bool.{true}
 use mathlib.Core.List.{List, [], _∷_, _++_, append-nil}
 use native.Mathlib.Omega.{arith}
-use lib.ListN.{length, getD, take, drop, replicate, length-append, length-replicate, length-drop}
+use lib.ListN.{length, take, drop, replicate, length-append, length-replicate, length-drop}
 use lib.Seq.{drop-append-le}
 use borrow.Author.Tests.{le-ltb}
 use Rattle.ring.specs.Ring.{size, forward, next, steps, rising}
@@ -14,9 +14,11 @@ use Rattle.ring.proofs.Steps.{forward-small, forward-forward, forward-steps}
 use Rattle.larq.specs.Channel.{Cell, missing, waiting, headMissing, reach, Channel}
 use Rattle.larq.specs.Settling.{Walked, walk, wide}
 use Rattle.larq.specs.Events.{asked}
+use Rattle.slots.specs.Slots.{slots, slotOf, isMissing}
 use Rattle.record.specs.Place.{cellsFrom, cellAt, spanOf}
 use Rattle.record.specs.Walk.{earlier, passes, waitingOf}
-use Rattle.stepping.specs.Step.{stamped}
+use Rattle.slots.proofs.Stores.{mark-stores}
+use Rattle.stepping.specs.Step.{timesMissing, marksMissing}
 use Rattle.place.specs.Steps.{Sized, cellsOf, handlesWith, marksWith, Last, Waits, Missing}
 use Rattle.record.proofs.Rounds.{slots-apart, span-end, span-between}
 use Rattle.record.proofs.Windows.{length-cells-from, drop-cells-from, take-cells-from, cell-missing}
@@ -31,7 +33,7 @@ use Rattle.place.proofs.Asking.{asked-run}
 -- so `count` numbers from `first` on become missing and are asked for.
 pub record Grows (w c m s k n d over past count first : ℕ) (last : Last) : Type 0 where
   pub window-some : 0 < w
-  pub window-fits : w ≤ 32
+  pub window-fits : w ≤ slots
   pub m-ring : m < size
   pub s-ring : s < size
   pub n-is : n ≡ spanOf c m
@@ -120,7 +122,7 @@ module _ {w c m s k n d over past count first : ℕ} {last : Last} (g : Grows w 
       ∙ sym (forward-forward c d 1)
       ∙ ap next s-is)
     where
-      small : (w n d : ℕ) → w ≤ 32 → n ≤ w → d ≤ reach w → n + d < size
+      small : (w n d : ℕ) → w ≤ slots → n ≤ w → d ≤ reach w → n + d < size
       small w n d a b e = omega arith
 
       swap : (d : ℕ) → 1 + d ≡ d + 1
@@ -135,7 +137,7 @@ module _ {w c m s k n d over past count first : ℕ} {last : Last} (g : Grows w 
     cells-all = cells ++ (replicate k (missing t) ++ cellsOf last)
 
     abbrev pub new-cell : ℕ → Cell ℕ
-    new-cell = cellAt (stamped 3 W first count t) (handlesWith last s H) (marksWith last s (stamped 0 K first count 0))
+    new-cell = cellAt (timesMissing W first count t) (handlesWith last s H) (marksWith last s (marksMissing K first count))
 
     abbrev pub walk-again : Walked ℕ
     walk-again = walk (earlier 0) (forward m over) (cellsFrom new-cell (forward m over) (n + d - over))
@@ -144,37 +146,37 @@ module _ {w c m s k n d over past count first : ℕ} {last : Last} (g : Grows w 
     handed = waitingOf H K m (over - past)
 
     kept-by : (l : Last) → (length (cellsOf l) ≡ 1 → forward first count ≡ s) → (j : ℕ)
-        → ((i : ℕ) → i < count + length (cellsOf l) → (first + i) % 32 ≡ j → ⊥)
-        → cellAt (stamped 3 W first count t) (handlesWith l s H) (marksWith l s (stamped 0 K first count 0)) j ≡ cellAt W H K j
+        → ((i : ℕ) → i < count + length (cellsOf l) → slotOf (first + i) ≡ j → ⊥)
+        → cellAt (timesMissing W first count t) (handlesWith l s H) (marksWith l s (marksMissing K first count)) j ≡ cellAt W H K j
     kept-by Missing f j o = cell-unmissed W H K first count t j (λ i p. o i (omega arith))
     kept-by (Waits x) f j o =
-        cell-beside (stamped 3 W first count t) H (stamped 0 K first count 0) (s % 32) x j (λ e. o count (omega arith) (slot-of (f refl) ∙ sym e))
+        cell-beside (timesMissing W first count t) H (marksMissing K first count) (slotOf s) x j (λ e. o count (omega arith) (slot-of (f refl) ∙ sym e))
         ∙ cell-unmissed W H K first count t j (λ i p. o i (omega arith))
       where
-        slot-of : forward first count ≡ s → (first + count) % 32 ≡ s % 32
+        slot-of : forward first count ≡ s → slotOf (first + count) ≡ slotOf s
         slot-of e = omega arith
 
-    new-by : (l : Last) → (length (cellsOf l) ≡ 1 → forward first count ≡ s) → count + length (cellsOf l) ≤ 32 → (i : ℕ) → i < count
-        → cellAt (stamped 3 W first count t) (handlesWith l s H) (marksWith l s (stamped 0 K first count 0)) ((first + i) % 32) ≡ missing t
+    new-by : (l : Last) → (length (cellsOf l) ≡ 1 → forward first count ≡ s) → count + length (cellsOf l) ≤ slots → (i : ℕ) → i < count
+        → cellAt (timesMissing W first count t) (handlesWith l s H) (marksWith l s (marksMissing K first count)) (slotOf (first + i)) ≡ missing t
     new-by Missing f b i p = cell-missed W H K first count t i (omega (arith, sized .words)) (omega (arith, sized .marks)) p
     new-by (Waits x) f b i p =
-        cell-beside (stamped 3 W first count t) H (stamped 0 K first count 0) (s % 32) x ((first + i) % 32)
+        cell-beside (timesMissing W first count t) H (marksMissing K first count) (slotOf s) x (slotOf (first + i))
         (λ e. slots-apart first i count p (omega arith) (e ∙ sym (slot-of (f refl))))
         ∙ cell-missed W H K first count t i (omega (arith, sized .words)) (omega (arith, sized .marks)) p
       where
-        slot-of : forward first count ≡ s → (first + count) % 32 ≡ s % 32
+        slot-of : forward first count ≡ s → slotOf (first + count) ≡ slotOf s
         slot-of e = omega arith
 
     end-by : (l : Last) → (length (cellsOf l) ≡ 1 → forward first count ≡ s)
-        → cellsFrom (cellAt (stamped 3 W first count t) (handlesWith l s H) (marksWith l s (stamped 0 K first count 0))) (forward first count) (length (cellsOf l))
+        → cellsFrom (cellAt (timesMissing W first count t) (handlesWith l s H) (marksWith l s (marksMissing K first count))) (forward first count) (length (cellsOf l))
         ≡ cellsOf l
     unfolding cellsFrom
     end-by Missing f = refl
     end-by (Waits x) f =
         rw (f refl)
         (ap (λ y. y ∷ [])
-        (cell-brought (stamped 3 W first count t) H (stamped 0 K first count 0) (s % 32) x (omega (arith, sized .handles))
-        (omega (arith, sized .marks, length-stamped 0 0 K first count))))
+        (cell-brought (timesMissing W first count t) H (marksMissing K first count) (slotOf s) x (omega (arith, sized .handles))
+        (omega (arith, sized .marks, length-stamped mark-stores K first count))))
 
     -- the old numbers that stay, the new ones that stay, and the last
     pub cells-from-again : cellsFrom new-cell (forward m over) (n + d - over)
@@ -182,14 +184,14 @@ module _ {w c m s k n d over past count first : ℕ} {last : Last} (g : Grows w 
     cells-from-again =
         ap (cellsFrom new-cell (forward m over)) sizes
         ∙ cells-from-grown (cellAt W H K) new-cell (forward m over) (n - over) count t (cellsOf last) (forward-small m over) fits
-        (λ j o. kept-by last last-follows j (λ i p e. o i p (ap (λ x. (x + i) % 32) (sym first-follows) ∙ e)))
-        (λ i p. ap (λ x. new-cell ((x + i) % 32)) (sym first-follows) ∙ new-by last last-follows some-fit i p)
+        (λ j o. kept-by last last-follows j (λ i p e. o i p (ap (λ x. slotOf (x + i)) (sym first-follows) ∙ e)))
+        (λ i p. ap (λ x. new-cell (slotOf (x + i))) (sym first-follows) ∙ new-by last last-follows some-fit i p)
         (ap (λ x. cellsFrom new-cell (forward x count) (length (cellsOf last))) (sym first-follows) ∙ end-by last last-follows)
       where
-        fits : (n - over) + (count + length (cellsOf last)) ≤ 32
+        fits : (n - over) + (count + length (cellsOf last)) ≤ slots
         fits = omega (arith, sizes, narrow-again, g .window-fits)
 
-        some-fit : count + length (cellsOf last) ≤ 32
+        some-fit : count + length (cellsOf last) ≤ slots
         some-fit = omega (arith, fits)
 
     -- ... are what the rules' grown window has left when M has passed what is too much
@@ -233,15 +235,15 @@ module _ {w c m s k n d over past count first : ℕ} {last : Last} (g : Grows w 
         enough w n d over e = omega arith
 
     -- No more goes up than waits: fewer than w of the old numbers, as M is missing, and the last.
-    pub head-missing : (0 < n → getD K (m % 32) 0 ≡ 0) → headMissing cells ≡ true
+    pub head-missing : (0 < n → isMissing K (slotOf m) ≡ true) → headMissing cells ≡ true
     unfolding cellsFrom
     head-missing o = by-span n o
       where
-        by-span : (n : ℕ) → (0 < n → getD K (m % 32) 0 ≡ 0) → headMissing (cellsFrom (cellAt W H K) m n) ≡ true
+        by-span : (n : ℕ) → (0 < n → isMissing K (slotOf m) ≡ true) → headMissing (cellsFrom (cellAt W H K) m n) ≡ true
         by-span zero o = refl
-        by-span (suc n) o = rw (cell-missing W H K (m % 32) (o (omega arith)))
+        by-span (suc n) o = rw (cell-missing W H K (slotOf m) (o (omega arith)))
 
-    pub up-room : (0 < n → getD K (m % 32) 0 ≡ 0) → length handed + length (walk-again .up) ≤ w
+    pub up-room : (0 < n → isMissing K (slotOf m) ≡ true) → length handed + length (walk-again .up) ≤ w
     up-room o =
         let all : length (handed ++ walk-again .up) ≤ length (waiting cells-all) =
         rw (ap (λ p. length (p .up)) walk-grown) at (up-few (wide w) m cells-all) in
@@ -294,7 +296,7 @@ module _ {w c m s k n d over past count first : ℕ} {last : Last} (g : Grows w 
         ∙ ap (λ x. rising (forward (next x) (over + passes walk-again - n)) (k - (over + passes walk-again - n))) ec
         ∙ by-count count refl
       where
-        small : (w n d : ℕ) → w ≤ 32 → n ≤ w → d ≤ reach w → n + d < 2048
+        small : (w n d : ℕ) → w ≤ slots → n ≤ w → d ≤ reach w → n + d < 2048
         small w n d a b e = omega arith
 
         most : (n d over r : ℕ) → over ≤ n + d → r ≤ n + d - over → over + r ≤ n + d

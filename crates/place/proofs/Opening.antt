@@ -1,19 +1,20 @@
 -- What an event that no number of the common ones refuses may rely on: lengths, a number in the ring and a sound record, as the functions
 -- that act ask for them. Assumes nothing.
-use Prim.Native.Nat.{ℕ, _-_, _%_, _≤_, _<_}
+use Prim.Native.Nat.{ℕ, _-_, _≤_, _<_}
 use mathlib.Core.Path.{_≡_, refl, ap, ap₂, sym, _∙_, subst}
 use mathlib.Core.Bool.{Bool, true, false, false≢true}
 use mathlib.Core.List.{List, [], _∷_}
 use native.Mathlib.Omega.{arith}
-use lib.Dec.{eqb, leb}
-use lib.ListN.{length, getD}
-use borrow.Author.Tests.{leb-true, eqb-true, eqb-false}
+use lib.Dec.{leb}
+use lib.ListN.{length}
+use borrow.Author.Tests.{leb-true}
 use Rattle.wire.specs.Refusals.{first, _else_}
-use Rattle.ring.specs.Ring.{next, steps, seen, Ahead}
+use Rattle.ring.specs.Ring.{next, steps, seen, Ahead, size}
 use Rattle.ring.proofs.Sides.{Seen, sees}
 use Rattle.larq.specs.Channel as channel
-use Rattle.larq.specs.Channel.{headMissing, sound, reach, waits}
+use Rattle.larq.specs.Channel.{headMissing, sound, reach, waits, window}
 use Rattle.larq.specs.Table.{lentEnough, notBefore}
+use Rattle.slots.specs.Slots.{slotOf, currentIn, oldestIn, isMissing, handleAt}
 use Rattle.record.specs.Place.{cellsFrom, cellAt, spanOf, recordOf}
 use Rattle.place.specs.Call.{Parts, Buffers}
 use Rattle.record.specs.Moving.{recordIn, spanIn}
@@ -37,14 +38,14 @@ all-pass true true false d e = absurd (let z : ⊥ = omega arith in z)
 all-pass true true true false e = absurd (let z : ⊥ = omega arith in z)
 
 -- a window whose first number does not wait
-head-of : (w k : List ℕ) (m n : ℕ) → headMissing (cellsFrom (cellAt w [] k) m n) ≡ true → 0 < n → getD k (m % 32) 0 ≡ 0
-head-of w k m n e p = by-mark (eqb (getD k (m % 32) 0) 0) refl
+head-of : (w k : List ℕ) (m n : ℕ) → headMissing (cellsFrom (cellAt w [] k) m n) ≡ true → 0 < n → isMissing k (slotOf m) ≡ true
+head-of w k m n e p = by-mark (isMissing k (slotOf m)) refl
   where
-    by-mark : (b : Bool) → eqb (getD k (m % 32) 0) 0 ≡ b → getD k (m % 32) 0 ≡ 0
-    by-mark true f = eqb-true (getD k (m % 32) 0) 0 f
+    by-mark : (b : Bool) → isMissing k (slotOf m) ≡ b → isMissing k (slotOf m) ≡ true
+    by-mark true f = f
     by-mark false f =
-        let first : cellsFrom (cellAt w [] k) m n ≡ waits (getD [] (m % 32) 0) ∷ cellsFrom (cellAt w [] k) (next m) (n - 1) =
-        cells-from-suc (cellAt w [] k) m n p ∙ rw (cell-waits w [] k (m % 32) (eqb-false (getD k (m % 32) 0) 0 f)) in
+        let first : cellsFrom (cellAt w [] k) m n ≡ waits (handleAt [] (slotOf m)) ∷ cellsFrom (cellAt w [] k) (next m) (n - 1) =
+        cells-from-suc (cellAt w [] k) m n p ∙ rw (cell-waits w [] k (slotOf m) f) in
         absurd (false≢true (sym (ap headMissing first) ∙ e))
 
 -- What was decided of a call with these parts and buffers, this number and this time.
@@ -75,10 +76,10 @@ module _ {p : Parts} {b : Buffers} {s time : ℕ} {r : Record} (opened : Opened 
   pub enough : Enough (length W) (length (p .handles)) (length K) (length (b .up)) (length (b .returned)) (length (b .nack))
   enough = enough-of (length W) (length (p .handles)) (length K) (length (b .up)) (length (b .returned)) (length (b .nack)) (passes .0)
 
-  pub in-ring : s < 4096
+  pub in-ring : s < size
   in-ring = omega (arith, leb-true s 4095 (passes .1))
 
-  in-shape : (inRing W ≡ true) × (inShape (getD W 0 0) (getD W 1 0) W K ≡ true)
+  in-shape : (inRing W ≡ true) × (inShape (currentIn W) (oldestIn W) W K ≡ true)
   in-shape = let e = sym (sound-is W K) ∙ passes .2 in (and-left (inRing W) _ e, and-right (inRing W) _ e)
 
   held : recordIn r W (p .handles) K ≡ recordOf W (p .handles) K
@@ -87,26 +88,26 @@ module _ {p : Parts} {b : Buffers} {s time : ℕ} {r : Record} (opened : Opened 
   pub ready : Ready r W (p .handles) K
   ready =
       let ring = ring-of W K (in-shape .0) in
-      let n = spanOf (getD W 0 0) (getD W 1 0) in
+      let n = spanOf (currentIn W) (oldestIn W) in
       let span : spanIn r ≡ n = ap₂ spanOf (opened .at .current) (opened .at .oldest) in
-      let cells = cellsFrom (cellAt W [] K) (getD W 1 0) n in
-      let fits : length cells ≤ 32 = leb-true (length cells) 32 (and-left (leb (length cells) 32) _ (in-shape .1)) in
-      let rest = and-right (leb (length cells) 32) _ (in-shape .1) in
+      let cells = cellsFrom (cellAt W [] K) (oldestIn W) n in
+      let fits : length cells ≤ window = leb-true (length cells) window (and-left (leb (length cells) window) _ (in-shape .1)) in
+      let rest = and-right (leb (length cells) window) _ (in-shape .1) in
       record {
         sized = record { words = enough .words-sized; handles = enough .handles-sized; marks = enough .marks-sized };
         held = held;
         current = rw (opened .at .current) (ring .0);
         oldest = rw (opened .at .oldest) (ring .1);
-        narrow = omega (arith, span, length-cells-from (cellAt W [] K) (getD W 1 0) n);
+        narrow = omega (arith, span, length-cells-from (cellAt W [] K) (oldestIn W) n);
         head = λ q.
-            ap (λ x. getD K (x % 32) 0) (opened .at .oldest)
-            ∙ head-of W K (getD W 1 0) n (and-left (headMissing cells) _ rest) (rw span at q);
+            ap (λ x. isMissing K (slotOf x)) (opened .at .oldest)
+            ∙ head-of W K (oldestIn W) n (and-left (headMissing cells) _ rest) (rw span at q);
       }
 
 -- s lies ahead: of so many numbers the last comes with a frame, or is missing with the others
 module _ (c s d : ℕ) (is : seen (reach channel.window) c s ≡ Ahead d) where
-  ahead-of : Seen 64 c s (Ahead d)
-  ahead-of = subst (Seen 64 c s) is (sees 64 c s (omega arith))
+  ahead-of : Seen (reach window) c s (Ahead d)
+  ahead-of = subst (Seen (reach window) c s) is (sees (reach window) c s (omega arith))
 
   pub ahead-some : 0 < d
   ahead-some = ahead-of .some

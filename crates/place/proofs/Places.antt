@@ -1,21 +1,21 @@
 -- What a place means when C, M and the latest time are laid down in its words, and after M has settled. Assumes nothing.
-use Prim.Native.Nat.{ℕ, _+_, _-_, _%_, _≤_, _<_}
+use Prim.Native.Nat.{ℕ, _+_, _≤_, _<_}
 use mathlib.Core.Path.{_≡_, refl, ap, sym, _∙_}
 use mathlib.Core.Bool.{Bool}
 use mathlib.Core.List.{List}
 use native.Mathlib.Omega.{arith}
-use lib.ListN.{length, getD, set, length-set}
-use lib.Seq.{getD-set-same, getD-set-other}
-use borrow.Author.Tests.{lt-ltb}
+use lib.ListN.{length}
 use Rattle.ring.specs.Ring.{size, forward}
 use Rattle.larq.specs.Channel.{Cell}
 use Rattle.larq.specs.Settling.{walk}
 use Rattle.larq.specs.Events.{moved, taken}
+use Rattle.slots.specs.Slots.{slotOf, currentIn, oldestIn, withHead, withLatest, timesFrom}
 use Rattle.record.specs.Place.{cellsFrom, cellAt, spanOf, recordWith, recordOf}
-use Rattle.record.specs.Moving.{spanIn, headed, storedIn}
+use Rattle.record.specs.Moving.{spanIn, storedIn}
 use Rattle.record.specs.Walk.{earlier, passes, Settles, settleNumbers}
 use Rattle.record.proofs.Settling.{settles-all}
 use Rattle.place.specs.Steps.{Sized, Roomy, walkOf, passedOf, Finished}
+use Rattle.slots.proofs.Stores.{head-current, head-oldest, head-latest, head-times, latest-current, latest-oldest, latest-latest, latest-times}
 use Rattle.place.specs.Call.{parts}
 use Rattle.record.specs.declared.Record.{Record}
 use Rattle.stepping.specs.declared.Counts.{Counts}
@@ -24,47 +24,21 @@ use Rattle.record.proofs.Rounds.{span-passed}
 use Rattle.record.proofs.Windows.{drop-cells-from, length-cells-from, cells-from-same}
 use Rattle.record.proofs.Walks.{Passed, passed}
 
--- a place has the words in which its record is laid down
-pub stored-headed : (r : Record) (w : List ℕ) → 2 < length w → storedIn r w ≡ headed w (r .current .0) (r .oldest .0) (r .latest)
-stored-headed r w sized = rw (lt-ltb 2 (length w) sized)
-
--- the three words at the head have no part in the cells
-module _ (w h k : List ℕ) (c m t : ℕ) (sized : 2 < length w) where
-  at-current : getD (headed w c m t) 0 0 ≡ c
-  at-current =
-      getD-set-other (set (set w 0 c) 1 m) 2 0 t 0 (λ e. omega arith)
-      ∙ getD-set-other (set w 0 c) 1 0 m 0 (λ e. omega arith)
-      ∙ getD-set-same w 0 c 0 (omega arith)
-
-  at-oldest : getD (headed w c m t) 1 0 ≡ m
-  at-oldest =
-      getD-set-other (set (set w 0 c) 1 m) 2 1 t 0 (λ e. omega arith)
-      ∙ getD-set-same (set w 0 c) 1 m 0 (simp length-set (omega arith))
-
-  at-latest : getD (headed w c m t) 2 0 ≡ t
-  at-latest = getD-set-same (set (set w 0 c) 1 m) 2 t 0 (simp length-set (omega arith))
-
-  at-times : (i : ℕ) → getD (headed w c m t) (3 + i) 0 ≡ getD w (3 + i) 0
-  at-times i =
-      getD-set-other (set (set w 0 c) 1 m) 2 (3 + i) t 0 (λ e. omega arith)
-      ∙ getD-set-other (set w 0 c) 1 (3 + i) m 0 (λ e. omega arith)
-      ∙ getD-set-other w 0 (3 + i) c 0 (λ e. omega arith)
-
-  pub record-headed : recordOf (headed w c m t) h k ≡ recordWith c m t w h k
-  unfolding recordWith
-  record-headed =
-      rw (at-current, at-oldest, at-latest)
-      (ap (λ cs. record { current = c; oldest = m; latest = t; cells = cs })
-      (cells-from-same (cellAt (headed w c m t) h k) (cellAt w h k) m (spanOf c m) (λ j p. rw (at-times ((m + j) % 32)))))
+-- a record that is laid down: its three words have no part in the cells
+pub record-headed : (w h k : List ℕ) (c m t : ℕ) → timesFrom ≤ length w → recordOf (withHead w c m t) h k ≡ recordWith c m t w h k
+unfolding recordWith
+record-headed w h k c m t sized =
+    rw (head-current w c m t sized, head-oldest w c m t sized, head-latest w c m t sized)
+    (ap (λ cs. record { current = c; oldest = m; latest = t; cells = cs })
+    (cells-from-same (cellAt (withHead w c m t) h k) (cellAt w h k) m (spanOf c m) (λ j p. rw (head-times w c m t (slotOf (m + j))))))
 
 -- only the latest time is laid down
-pub record-taken : (w h k : List ℕ) (t : ℕ) → 2 < length w → recordOf (set w 2 t) h k ≡ taken (recordOf w h k) t
+pub record-taken : (w h k : List ℕ) (t : ℕ) → timesFrom ≤ length w → recordOf (withLatest w t) h k ≡ taken (recordOf w h k) t
 unfolding recordWith
 record-taken w h k t sized =
-    let times : (i : ℕ) → getD (set w 2 t) (3 + i) 0 ≡ getD w (3 + i) 0 = λ i. getD-set-other w 2 (3 + i) t 0 (λ e. omega arith) in
-    rw (getD-set-other w 2 0 t 0 (λ e. omega arith), getD-set-other w 2 1 t 0 (λ e. omega arith), getD-set-same w 2 t 0 sized)
-    (ap (λ cs. record { current = getD w 0 0; oldest = getD w 1 0; latest = t; cells = cs })
-    (cells-from-same (cellAt (set w 2 t) h k) (cellAt w h k) (getD w 1 0) (spanOf (getD w 0 0) (getD w 1 0)) (λ j p. rw (times ((getD w 1 0 + j) % 32)))))
+    rw (latest-current w t, latest-oldest w t, latest-latest w t sized)
+    (ap (λ cs. record { current = currentIn w; oldest = oldestIn w; latest = t; cells = cs })
+    (cells-from-same (cellAt (withLatest w t) h k) (cellAt w h k) (oldestIn w) (spanOf (currentIn w) (oldestIn w)) (λ j p. rw (latest-times w t (slotOf (oldestIn w + j))))))
 
 -- the cells that a walk leaves are the window from the new M on
 pub walk-cells-from : (givesUp : ℕ → ℕ → Bool) (f : ℕ → Cell ℕ) (c m : ℕ) → m < size
@@ -87,9 +61,9 @@ pub walked : {r : Record} {until : ℕ} {w h k : List ℕ} {at : ℕ} {before af
 walked sized room = settles-all (sized .words) (sized .handles) (sized .marks) room
 
 -- the record when M has settled and the three words are laid down
-pub settled-record : (r : Record) (until : ℕ) (w h k : List ℕ) (at : ℕ) (before after : List ℕ) (s : Settled) → 2 < length w → r .oldest .0 < size
+pub settled-record : (r : Record) (until : ℕ) (w h k : List ℕ) (at : ℕ) (before after : List ℕ) (s : Settled) → timesFrom ≤ length w → r .oldest .0 < size
     → Settles r (spanIn r) until w h k at before after s
-    → recordOf (headed w (s .kept .current .0) (s .kept .oldest .0) (s .kept .latest)) h k
+    → recordOf (withHead w (s .kept .current .0) (s .kept .oldest .0) (s .kept .latest)) h k
     ≡ moved (r .current .0) (r .latest) (walkOf r until w h k)
 unfolding recordWith
 settled-record r until w h k at before after s sized ring e =
@@ -104,18 +78,23 @@ passed-few r until w h k ring =
     let cells = cellsFrom (cellAt w h k) (r .oldest .0) (spanIn r) in
     omega (arith, passed (earlier until) (r .oldest .0) cells ring .few, length-cells-from (cellAt w h k) (r .oldest .0) (spanIn r))
 
+-- what went up in this call has room
+pub settled-room : {r : Record} {had : Counts} {w h k before after : List ℕ} {s : Settled} → Sized w h k → Roomy r had w h k before
+    → Settles r (settleNumbers w h k (spanIn r) (had .up) before) 0 w h k (had .up) before after s → had .up + s .up ≤ length before
+settled-room sized roomy settles = omega (arith, walked sized (roomy .room) settles .up .end-is, roomy .room)
+
 -- M has settled in a place, where it has room, and the record is laid down
 pub finished : {r : Record} {had : Counts} {w h k before after w′ : List ℕ} {s : Settled} → Sized w h k → Roomy r had w h k before
     → Settles r (settleNumbers w h k (spanIn r) (had .up) before) 0 w h k (had .up) before after s → w′ ≡ storedIn (s .kept) w
     → Finished r (parts w h k) had before w′ after (record { up = had .up + s .up; nack = had .nack; lost = had .lost })
 finished {r} {had} {w} {h} {k} {before} {after} {s = s} sized roomy settles words-are =
     let done = walked sized (roomy .room) settles in
-    let long : 2 < length w = omega (arith, sized .words) in
+    let long : timesFrom ≤ length w = omega (arith, sized .words) in
     record {
       up = done .up;
       nack = refl;
       lost = refl;
       became =
-          ap (λ w. recordOf w h k) (words-are ∙ stored-headed (s .kept) w long)
+          ap (λ w. recordOf w h k) words-are
           ∙ settled-record r 0 w h k (had .up) before after s long (roomy .oldest) done;
     }

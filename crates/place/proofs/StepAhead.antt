@@ -1,22 +1,25 @@
 -- What the calls of a step ahead leave is what the rules say: the handles that M passed and those that it met then go up, the numbers that
 -- stay missing are asked for, and the place means the settled record. Assumes nothing.
-use Prim.Native.Nat.{ℕ, _+_, _-_, _%_, _≤_, _<_}
+use Prim.Native.Nat.{ℕ, _+_, _-_, _≤_, _<_}
 use mathlib.Core.Path.{_≡_, refl, ap, ap₂, sym, _∙_}
 use mathlib.Core.List.{List, [], _++_}
 use native.Mathlib.Omega.{arith}
 use native.Mathlib.Nat.{zero-add}
-use lib.ListN.{length, getD, length-append}
-use Rattle.ring.specs.Ring.{forward, steps, rising}
+use lib.ListN.{length, length-append}
+use Rattle.ring.specs.Ring.{forward, steps, rising, size}
 use Rattle.ring.proofs.Steps.{forward-small, length-rising}
 use Rattle.larq.specs.Channel as channel
 use Rattle.larq.specs.Settling.{Walked, walk, wide}
 use Rattle.larq.specs.Answer.{accepted, holds}
 use Rattle.larq.specs.Events.{ahead, settledAt, moved}
+use mathlib.Core.Bool.{true}
+use Rattle.larq.specs.Channel.{window}
+use Rattle.slots.specs.Slots.{slotOf, isMissing}
 use Rattle.record.specs.Place.{cellsFrom, cellAt, recordWith}
 use Rattle.place.specs.Call.{DidAt, parts, buffers}
 use Rattle.record.specs.Buffers.{Laid}
 use Rattle.record.specs.Walk.{earlier, waitingOf, Settles, settleNumbers}
-use Rattle.stepping.specs.Step.{Missed, stamped, Widened, Widens}
+use Rattle.stepping.specs.Step.{Missed, marksMissing, Widened, Widens}
 use Rattle.place.specs.Steps.{Sized, Ready, Roomy, walkOf, Finished, answerOf, Last, cellsOf, handlesWith, marksWith, IsAhead}
 use Rattle.record.specs.Moving.{recordIn, spanIn, IsGrown}
 use Rattle.record.specs.declared.Record.{Record}
@@ -27,13 +30,14 @@ use Rattle.record.specs.declared.window.Settled.{Settled}
 use Rattle.stepping.proofs.Stepping.{can-step}
 use Rattle.record.proofs.Walks.{never-lost}
 use Rattle.record.proofs.Laying.{laid-length, laid-laid, wrote-front, wrote-none}
+use Rattle.slots.proofs.Stores.{time-stores, mark-stores}
 use Rattle.stepping.proofs.Stamping.{length-stamped}
 use Rattle.place.proofs.Places.{walked}
 use Rattle.place.proofs.Growing.{Grows, new-cell, walk-again, past-few, span-again, walk-grown, up-room, asked-grown}
 
 -- the step can be taken, and so it is
 pub stepped : {r : Record} {W H K U N w₁ k₁ u₁ q₁ : List ℕ} {s k t : ℕ} {last : Last} {p : Passed} → Ready r W H K → IsAhead (r .current .0) s k last
-    → 32 ≤ length U → 32 ≤ length N
+    → window ≤ length U → window ≤ length N
     → Widens r s k t W H K U N w₁ k₁ u₁ q₁ p
     → Widened r s k t W H K U N w₁ k₁ u₁ q₁ p
 stepped {r = r} {W = W} {H = H} {K = K} {U = U} {N = N} {s = s} {k = k} ready is-ahead room-up room-nack widens =
@@ -53,8 +57,8 @@ stepped {r = r} {W = W} {H = H} {K = K} {U = U} {N = N} {s = s} {k = k} ready is
     }))
 
 -- C has come to s: the facts of a step from which M settles.
-module _ {r : Record} {W H K U N w₁ k₁ u₁ q₁ : List ℕ} {s k t : ℕ} {last : Last} {p : Passed} (ready : Ready r W H K) (s-ring : s < 4096)
-    (is-ahead : IsAhead (r .current .0) s k last) (room-up : 32 ≤ length U) (room-nack : 32 ≤ length N)
+module _ {r : Record} {W H K U N w₁ k₁ u₁ q₁ : List ℕ} {s k t : ℕ} {last : Last} {p : Passed} (ready : Ready r W H K) (s-ring : s < size)
+    (is-ahead : IsAhead (r .current .0) s k last) (room-up : window ≤ length U) (room-nack : window ≤ length N)
     (wide : Widened r s k t W H K U N w₁ k₁ u₁ q₁ p) where
   abbrev to : Grown
   to = p .grown
@@ -90,7 +94,7 @@ module _ {r : Record} {W H K U N w₁ k₁ u₁ q₁ : List ℕ} {s k t : ℕ} {
         first-is = is .first;
       }
 
-  head : 0 < spanIn r → getD K (m % 32) 0 ≡ 0
+  head : 0 < spanIn r → isMissing K (slotOf m) ≡ true
   head = ready .head
 
   -- the handles that M passes at once
@@ -111,20 +115,20 @@ module _ {r : Record} {W H K U N w₁ k₁ u₁ q₁ : List ℕ} {s k t : ℕ} {
       ∙ ap₂ (λ x y. accepted (x ++ again .up) [] y (to .over - length x + again .lost) (holds (moved s t again))) (sym handed-is)
       (asked-grown grows W H K (ready .sized) t (recordIn r W H K) refl)
 
-  count-room : to .count ≤ 32
+  count-room : to .count ≤ window
   count-room = omega (arith, is .count, is .over, is-ahead .near, is-ahead .all, past-few grows)
 
   pub widened-sized : Sized w₁ H k₁
   widened-sized =
       record {
-        words = ap length (missed .words) ∙ length-stamped 3 t W (to .first .0) (to .count) ∙ ready .sized .words;
+        words = ap length (missed .words) ∙ length-stamped (time-stores t) W (to .first .0) (to .count) ∙ ready .sized .words;
         handles = ready .sized .handles;
-        marks = ap length (missed .marks) ∙ length-stamped 0 0 K (to .first .0) (to .count) ∙ ready .sized .marks;
+        marks = ap length (missed .marks) ∙ length-stamped mark-stores K (to .first .0) (to .count) ∙ ready .sized .marks;
       }
 
   -- The last number comes, or is missing too, and M settles.
   module _ {h₂ k₂ : List ℕ} (handles-are : h₂ ≡ handlesWith last s H) (marks-are : k₂ ≡ marksWith last s k₁) where
-    marks-all : k₂ ≡ marksWith last s (stamped 0 K (to .first .0) (to .count) 0)
+    marks-all : k₂ ≡ marksWith last s (marksMissing K (to .first .0) (to .count))
     marks-all = marks-are ∙ ap (marksWith last s) (missed .marks)
 
     walk-to : walkOf (to .kept) 0 w₁ h₂ k₂ ≡ again
@@ -135,7 +139,7 @@ module _ {r : Record} {W H K U N w₁ k₁ u₁ q₁ : List ℕ} {s k t : ℕ} {
     up-to : length (walkOf (to .kept) 0 w₁ h₂ k₂ .up) ≡ length (again .up)
     up-to = ap (λ p. length (p .up)) walk-to
 
-    up-few : length handed + length (again .up) ≤ 32
+    up-few : length handed + length (again .up) ≤ window
     up-few = rw (← handed-is) at (up-room grows W H K (ready .sized) t head)
 
     none-lost : walkOf (to .kept) 0 w₁ h₂ k₂ .lost ≡ 0
@@ -159,7 +163,7 @@ module _ {r : Record} {W H K U N w₁ k₁ u₁ q₁ : List ℕ} {s k t : ℕ} {
     -- no more goes up in the whole call than a window has
     pub gone-few : {u₂ : List ℕ} {e : Settled}
         → Settles (to .kept) (settleNumbers w₁ h₂ k₂ (spanIn (to .kept)) (p .had .up) u₁) 0 w₁ h₂ k₂ (p .had .up) u₁ u₂ e → Sized w₁ h₂ k₂
-        → p .had .up + e .up ≤ 32
+        → p .had .up + e .up ≤ window
     gone-few settles sized = omega (arith, walked sized (settle-room .room) settles .up .end-is, wide .handed .end-is, up-to, up-few)
 
     pub ahead-did : {w₂ u₂ : List ℕ} {has : Counts} → Finished (to .kept) (parts w₁ h₂ k₂) (p .had) u₁ w₂ u₂ has

@@ -3,12 +3,14 @@ use Prim.Native.Nat.{ℕ}
 use mathlib.Core.Path.{_≡_}
 use mathlib.Core.Bool.{true}
 use mathlib.Core.List.{List, [], _∷_}
-use lib.ListN.{length, replicate}
+use lib.ListN.{length, set, replicate}
+use Rattle.ring.specs.Ring.{next}
 use Rattle.larq.specs.Channel.{window}
 use Rattle.larq.specs.Answer.{Change, same, holds, freed, Outcome}
 use Rattle.larq.specs.Events.{Act}
 use Rattle.larq.specs.Table.{Event, one}
-use Rattle.record.specs.Place.{recordOf, placeSized}
+use Rattle.slots.specs.Slots.{slots, placeWords, placeSized, withHead}
+use Rattle.record.specs.Place.{recordOf}
 use Rattle.record.specs.Buffers.{Wrote}
 use Rattle.place.specs.declared.Answer.{Answer}
 
@@ -37,6 +39,12 @@ pub record Says (n u r q l : ℕ) (given : Answer) : Type 0 where
   pub nack : given .nack ≡ q
   pub lost : given .lost ≡ l
 
+-- a channel begins with number s, or begins anew: its record is that of one just opened, and s goes up
+pub record Begins (s handle time : ℕ) (words up words′ up′ : List ℕ) (given : Answer) : Type 0 where
+  pub head : words′ ≡ withHead words s (next s) time
+  pub frame : up′ ≡ set up 0 handle
+  pub answer : Says 0 1 0 0 0 given
+
 -- the parts of one place
 pub record Parts : Type 0 where
   pub words : List ℕ
@@ -50,7 +58,7 @@ parts words handles marks = record { words = words; handles = handles; marks = m
 abbrev pub Became : Change ℕ → Parts → Parts → Type 0
 Became same before after = after ≡ before
 Became (holds c) before after = recordOf (after .words) (after .handles) (after .marks) ≡ c
-Became freed before after = after ≡ parts (replicate 35 0) (replicate 32 0) (replicate 32 0)
+Became freed before after = after ≡ parts (replicate placeWords 0) (replicate slots 0) (replicate slots 0)
 
 -- an event at an open place, on its own: the key has no part in it
 abbrev pub eventAt : Parts → Buffers → ℕ → Act ℕ → Event ℕ

@@ -1,17 +1,18 @@
--- What the functions inside the crate ask for and promise.
-use Prim.Native.Nat.{ℕ, _+_, _-_, _≤_, _<_, _%_}
+-- What a frame and the events that bring none ask for and promise inside their crates, place_frame and place_upkeep.
+use Prim.Native.Nat.{ℕ, _+_, _≤_, _<_}
 use mathlib.Core.Path.{_≡_}
-use mathlib.Core.Bool.{cond}
+use mathlib.Core.Bool.{cond, true}
 use mathlib.Core.List.{List, [], _∷_}
-use lib.ListN.{length, getD, set}
+use lib.ListN.{length}
 use Rattle.wire.specs.Refusals.{Refusal}
-use Rattle.ring.specs.Ring.{steps}
-use Rattle.larq.specs.Channel.{Cell, waits, Channel}
+use Rattle.ring.specs.Ring.{steps, size}
+use Rattle.larq.specs.Channel.{Cell, waits, Channel, window, reach}
 use Rattle.larq.specs.Settling.{Walked}
 use Rattle.larq.specs.Channel as channel
 use Rattle.larq.specs.Answer.{Outcome, refused}
 use Rattle.larq.specs.Events.{moved, filling, filled, data-on, reminder-on, sideOf}
 use Rattle.larq.specs.Table.{Lent, notFar}
+use Rattle.slots.specs.Slots.{slots, slotOf, placeWords, isMissing, withHandle, withWaiting}
 use Rattle.record.specs.Place.{recordOf}
 use Rattle.record.specs.Buffers.{Laid}
 use Rattle.record.specs.Moving.{recordIn, spanIn}
@@ -25,18 +26,18 @@ use Rattle.stepping.specs.declared.Counts.{Counts}
 
 -- the parts of a place are as long as they should be
 pub record Sized (w h k : List ℕ) : Type 0 where
-  pub words : length w ≡ 35
-  pub handles : length h ≡ 32
-  pub marks : length k ≡ 32
+  pub words : length w ≡ placeWords
+  pub handles : length h ≡ slots
+  pub marks : length k ≡ slots
 
 -- what an event that is not refused finds: the record that the place holds, not broken. The times of missing numbers need not be told here
 pub record Ready (r : Record) (w h k : List ℕ) : Type 0 where
   pub sized : Sized w h k
   pub held : recordIn r w h k ≡ recordOf w h k
-  pub current : r .current .0 < 4096
-  pub oldest : r .oldest .0 < 4096
-  pub narrow : spanIn r ≤ 32
-  pub head : 0 < spanIn r → getD k (r .oldest .0 % 32) 0 ≡ 0
+  pub current : r .current .0 < size
+  pub oldest : r .oldest .0 < size
+  pub narrow : spanIn r ≤ window
+  pub head : 0 < spanIn r → isMissing k (slotOf (r .oldest .0)) ≡ true
 
 -- what is lent for a call, and the tests that every event has, of its parts and buffers
 abbrev pub lentAt : Parts → Buffers → Lent
@@ -60,7 +61,7 @@ answerOf k = record { number = 0; up = k .up; returned = 0; nack = k .nack; lost
 
 -- M can settle: it is a number of the ring, and what it passes has room behind what was handed up before in this call
 pub record Roomy (r : Record) (had : Counts) (w h k up : List ℕ) : Type 0 where
-  pub oldest : r .oldest .0 < 4096
+  pub oldest : r .oldest .0 < size
   pub room : had .up + passedOf r 0 w h k ≤ length up
 
 -- M has settled and the record is laid down, in a call that had answered so much before
@@ -80,17 +81,17 @@ cellsOf (Waits handle) = waits handle ∷ []
 cellsOf Missing = []
 
 abbrev pub handlesWith : Last → ℕ → List ℕ → List ℕ
-handlesWith (Waits handle) s handles = set handles (s % 32) handle
+handlesWith (Waits handle) s handles = withHandle handles (slotOf s) handle
 handlesWith Missing s handles = handles
 
 abbrev pub marksWith : Last → ℕ → List ℕ → List ℕ
-marksWith (Waits handle) s marks = set marks (s % 32) 1
+marksWith (Waits handle) s marks = withWaiting marks (slotOf s)
 marksWith Missing s marks = marks
 
--- s lies ahead of c by 1 to 64: so many numbers become missing, and s is the last of them or comes after them
+-- s lies ahead of c, within the reach: so many numbers become missing, and s is the last of them or comes after them
 pub record IsAhead (c s made : ℕ) (last : Last) : Type 0 where
   pub some : 0 < steps c s
-  pub near : steps c s ≤ 64
+  pub near : steps c s ≤ reach window
   pub all : steps c s ≡ made + length (cellsOf last)
 
 -- s lies behind, as the rules have it

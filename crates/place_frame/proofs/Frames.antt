@@ -4,15 +4,16 @@ use mathlib.Core.Path.{_≡_, refl, ap, sym, _∙_}
 use mathlib.Core.List.{List, [], _∷_, _++_}
 use native.Mathlib.Omega.{arith}
 use lib.ListN.{length, set}
-use Rattle.ring.specs.Ring.{next, steps, seen, Side, Ahead, Far}
+use Rattle.ring.specs.Ring.{next, steps, seen, Side, Ahead, Far, size}
 use Rattle.larq.specs.Channel as channel
-use Rattle.larq.specs.Channel.{waits, reach, Channel}
+use Rattle.larq.specs.Channel.{waits, reach, Channel, window}
 use Rattle.larq.specs.Settling.{walk, wide}
 use Rattle.larq.specs.Answer.{accepted, holds}
 use Rattle.larq.specs.Events.{frame, act-on, data-on, ahead, restarted, opened, asked, settledAt, taken}
-use Rattle.record.specs.Place.{cellsFrom, cellAt, spanOf, recordWith}
+use Rattle.slots.specs.Slots.{withHead, withLatest}
+use Rattle.record.specs.Place.{cellAt, spanOf, recordWith}
 use Rattle.place.specs.Call.{Parts, Buffers, parts, buffers, Says, DidAt, Called}
-use Rattle.record.specs.Moving.{recordIn, spanIn, headed}
+use Rattle.record.specs.Moving.{recordIn, spanIn}
 use Rattle.place.specs.Steps.{Ready, answerOf, filledAt, dataAt}
 use Rattle.judging.specs.Judge.{NextAt, MissingAt, UnwantedAt}
 use Rattle.place.specs.declared.Answer.{Answer}
@@ -35,7 +36,7 @@ module _ {r : Record} {W H K : List ℕ} (s x t : ℕ) (is-ready : Ready r W H K
   rule-by is = ap (data-on channel.window c t s x) is
 
   -- the number after C, while nothing is missing: the window is that number alone, and M passes it
-  rule-next : s < 4096 → NextAt r s → dataAt c t s x ≡ accepted (x ∷ []) [] [] 0 (holds (opened s t))
+  rule-next : s < size → NextAt r s → dataAt c t s x ≡ accepted (x ∷ []) [] [] 0 (holds (opened s t))
   unfolding recordWith asked
   rule-next ring at =
       rule-by (at .is)
@@ -43,13 +44,13 @@ module _ {r : Record} {W H K : List ℕ} (s x t : ℕ) (is-ready : Ready r W H K
       (cells-from-none (cellAt W H K) (r .oldest .0) (spanIn r) (at .none))
       ∙ ap (λ m. accepted (x ∷ []) [] [] 0 (holds (record { current = s; oldest = next m; latest = t; cells = [] }))) oldest-is
     where
-      follows : (c m : ℕ) → m < 4096 → spanOf c m ≡ 0 → steps c s ≡ 1 → m ≡ s
+      follows : (c m : ℕ) → m < size → spanOf c m ≡ 0 → steps c s ≡ 1 → m ≡ s
       follows c m a b d = omega arith
 
       oldest-is : r .oldest .0 ≡ s
       oldest-is = follows (r .current .0) (r .oldest .0) (is-ready .oldest) (at .none) (ahead-by-one (r .current .0) s (at .is))
 
-  pub frame-next : {w u : List ℕ} {a : Answer} (U B N : List ℕ) → s < 4096 → NextAt r s → 0 < length U → w ≡ headed W s (next s) t → u ≡ set U 0 x
+  pub frame-next : {w u : List ℕ} {a : Answer} (U B N : List ℕ) → s < size → NextAt r s → 0 < length U → w ≡ withHead W s (next s) t → u ≡ set U 0 x
       → Says 0 1 0 0 0 a → DidAt (dataAt c t s x) (parts W H K) (parts w H K) (buffers U B N) (buffers u B N) a
   frame-next U B N ring at room ew eu says =
       did-as (rule-next ring at)
@@ -80,7 +81,7 @@ module _ {r : Record} {W H K : List ℕ} (s x t : ℕ) (is-ready : Ready r W H K
   frame-far N is did = did-as (rule-by is) (did-nack N did)
 
   -- the handle comes back, and the latest time is laid down
-  pub frame-unwanted : {w b : List ℕ} {a : Answer} (U B N : List ℕ) → UnwantedAt r K s → 0 < length B → w ≡ set W 2 t → b ≡ set B 0 x
+  pub frame-unwanted : {w b : List ℕ} {a : Answer} (U B N : List ℕ) → UnwantedAt r K s → 0 < length B → w ≡ withLatest W t → b ≡ set B 0 x
       → Says 0 0 1 0 0 a → DidAt (dataAt c t s x) (parts W H K) (parts w H K) (buffers U B N) (buffers U b N) a
   frame-unwanted U B N at room ew eb says =
       did-as

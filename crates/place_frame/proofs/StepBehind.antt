@@ -1,18 +1,19 @@
 -- Number s lies at C or behind it: where it is missing it waits and M settles, else its handle comes back. What the calls leave is what the
 -- rules say. Document 01, 'Data'. Assumes nothing.
-use Prim.Native.Nat.{ℕ, _+_, _-_, _%_, _≤_, _<_}
+use Prim.Native.Nat.{ℕ, _≤_, _<_}
 use mathlib.Core.Path.{_≡_, refl, ap, ap₂, sym, _∙_}
-use mathlib.Core.Logic.{_⊎_, ⊎-elim}
+use mathlib.Core.Logic.{⊎-elim}
 use mathlib.Core.Option.{some}
 use mathlib.Core.List.{List, [], _∷_}
 use native.Mathlib.Omega.{arith}
 use lib.ListN.{length, getD, set}
 use Rattle.ring.specs.Ring.{steps}
 use Rattle.larq.specs.Channel as channel
-use Rattle.larq.specs.Channel.{Cell, waits, missing}
+use Rattle.larq.specs.Channel.{Cell, waits, missing, window}
 use Rattle.larq.specs.Settling.{Walked, walk}
 use Rattle.larq.specs.Answer.{accepted, holds}
 use Rattle.larq.specs.Events.{asked, filled, settledAt, moved, taken}
+use Rattle.slots.specs.Slots.{slotOf, timeAt, handleAt, withHandle, withWaiting}
 use Rattle.record.specs.Place.{cellsFrom, cellAt, recordWith}
 use Rattle.place.specs.Call.{DidAt, parts, buffers}
 use Rattle.record.specs.Walk.{earlier}
@@ -42,7 +43,7 @@ module _ {r : Record} {W H K : List ℕ} (ready : Ready r W H K) (s x t : ℕ) w
   abbrev cells : List (Cell ℕ)
   cells = cellsFrom (cellAt W H K) m n
 
-  at-steps : steps m s < n → getD cells (steps m s) (missing 0) ≡ cellAt W H K (s % 32)
+  at-steps : steps m s < n → getD cells (steps m s) (missing 0) ≡ cellAt W H K (slotOf s)
   at-steps l = cells-from-at (cellAt W H K) m n (steps m s) (missing 0) l ∙ ap (cellAt W H K) (slot-steps m s)
 
   within-cells : steps m s < n → steps m s < length cells
@@ -55,17 +56,17 @@ module _ {r : Record} {W H K : List ℕ} (ready : Ready r W H K) (s x t : ℕ) w
       ap (filled channel.window (recordIn r W H K) t x)
       (⊎-elim (λ l. filling-past cells (steps m s) x (rw (length-cells-from (cellAt W H K) m n) l))
       (λ o.
-      filling-waiting cells (steps m s) (getD H (s % 32) 0) (missing 0) x (within-cells (o .0))
-      (at-steps (o .0) ∙ cell-waits W H K (s % 32) (o .1)))
+      filling-waiting cells (steps m s) (handleAt H (slotOf s)) (missing 0) x (within-cells (o .0))
+      (at-steps (o .0) ∙ cell-waits W H K (slotOf s) (o .1)))
       (at .unwanted))
 
   -- It is missing, and waits from now on.
   module _ (at : MissingAt r K s) where
     abbrev H′ : List ℕ
-    H′ = set H (s % 32) x
+    H′ = withHandle H (slotOf s) x
 
     abbrev K′ : List ℕ
-    K′ = set K (s % 32) 1
+    K′ = withWaiting K (slotOf s)
 
     abbrev again : Walked ℕ
     again = walk (earlier 0) m (cellsFrom (cellAt W H′ K′) m n)
@@ -73,22 +74,22 @@ module _ {r : Record} {W H K : List ℕ} (ready : Ready r W H K) (s x t : ℕ) w
     cells-filled : cellsFrom (cellAt W H′ K′) m n ≡ set cells (steps m s) (waits x)
     cells-filled =
         cells-from-set (cellAt W H K) (cellAt W H′ K′) m n (steps m s) (ready .narrow) (at .within)
-        (λ j o. cell-beside W H K (s % 32) x j (λ e. o (e ∙ sym (slot-steps m s))))
+        (λ j o. cell-beside W H K (slotOf s) x j (λ e. o (e ∙ sym (slot-steps m s))))
         ∙ ap (set cells (steps m s))
         (ap (cellAt W H′ K′) (slot-steps m s)
-        ∙ cell-brought W H K (s % 32) x (omega (arith, ready .sized .handles)) (omega (arith, ready .sized .marks)))
+        ∙ cell-brought W H K (slotOf s) x (omega (arith, ready .sized .handles)) (omega (arith, ready .sized .marks)))
 
     rule-missing : filledAt (recordIn r W H K) t s x ≡ accepted (again .up) [] [] (again .lost) (holds (moved c t again))
     unfolding recordWith asked
     rule-missing =
         ap (filled channel.window (recordIn r W H K) t x)
-        (filling-missing cells (steps m s) (getD W (3 + s % 32) 0) (missing 0) x (within-cells (at .within))
-        (at-steps (at .within) ∙ cell-missing W H K (s % 32) (at .marked))
+        (filling-missing cells (steps m s) (timeAt W (slotOf s)) (missing 0) x (within-cells (at .within))
+        (at-steps (at .within) ∙ cell-missing W H K (slotOf s) (at .marked))
         ∙ ap some (sym cells-filled))
         ∙ ap (settledAt (recordIn r W H K) t c 0)
         (walk-narrow channel.window m (cellsFrom (cellAt W H′ K′) m n) (rw (length-cells-from (cellAt W H′ K′) m n) (ready .narrow)))
 
-    few-up : length (again .up) ≤ 32
+    few-up : length (again .up) ≤ window
     few-up =
         omega (
           arith,
@@ -107,7 +108,7 @@ module _ {r : Record} {W H K : List ℕ} (ready : Ready r W H K) (s x t : ℕ) w
       none-lost : walkOf to 0 W h k .lost ≡ 0
       none-lost = never-lost (to .oldest .0) (cellsFrom (cellAt W h k) (to .oldest .0) (spanIn to))
 
-      pub filled-room : (U : List ℕ) → 32 ≤ length U → Roomy to nothing W h k U
+      pub filled-room : (U : List ℕ) → window ≤ length U → Roomy to nothing W h k U
       filled-room U room =
           record {
             oldest = rw to-oldest (ready .oldest);
@@ -115,7 +116,7 @@ module _ {r : Record} {W H K : List ℕ} (ready : Ready r W H K) (s x t : ℕ) w
                 omega (arith, ap (λ p. length (p .up)) walk-to, few-up, none-lost);
           }
 
-      pub filled-did : {U w u : List ℕ} {n : Counts} → Finished to (parts W h k) nothing U w u n → 32 ≤ length U
+      pub filled-did : {U w u : List ℕ} {n : Counts} → Finished to (parts W h k) nothing U w u n → window ≤ length U
           → DidAt (filledAt (recordIn r W H K) t s x) (parts W H K) (parts w h k) (buffers U [] []) (buffers u [] []) (answerOf n)
       filled-did f room =
           rw rule-missing

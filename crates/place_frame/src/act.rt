@@ -1,21 +1,25 @@
 // What an accepted frame does to a place and the buffers: nothing is decided here (document 01, 'Data').
 ghost use mathlib.Core.Path.{_≡_};
 ghost use mathlib.Core.List.{[], _∷_};
-ghost use Prim.Native.Nat.{_%_, _≤_, _<_};
+ghost use Prim.Native.Nat.{_≤_, _<_};
 ghost use lib.ListN.{length, set};
-ghost use Rattle.ring.specs.Ring.{next};
 ghost use Rattle.larq.specs.Channel.{window, waits};
 ghost use Rattle.larq.specs.Events.{ahead, restarted};
+ghost use Rattle.ring.specs.Ring.{size};
+ghost use Rattle.slots.specs.Slots.{slotOf, withLatest, withHandle, withWaiting};
 ghost use Rattle.place.specs.Call.{DidAt, Says, parts, buffers};
-ghost use Rattle.record.specs.Moving.{recordIn, headed};
+ghost use Rattle.record.specs.Moving.{recordIn};
 ghost use Rattle.place.specs.Steps.{Sized, Ready, Roomy, Finished, answerOf, Waits, IsAhead, filledAt};
 ghost use Rattle.judging.specs.Judge.{MissingAt};
 use place::Answer;
+use place::accepted;
+use place::begun;
 use record::NEVER;
 use record::Record;
 use record::hand;
-use record::slot;
 use ring::Seq;
+use slots::set_latest;
+use slots::set_waiting;
 use stepping::Counts;
 use stepping::widened;
 
@@ -31,13 +35,11 @@ fn brought(
     handle: u32,
 ) -> Counts
     requires { ⌜ Sized (now words) (now handles) (now marks) ⌝ }
-    requires { ⌜ Roomy r had (now words) (set (now handles) (s .0 % 32) handle) (set (now marks) (s .0 % 32) 1) (now up) ⌝ }
-    ensures { λ k. ⌜ (now (handles .exit) ≡ set (now (handles .entry)) (s .0 % 32) handle) × (now (marks .exit) ≡ set (now (marks .entry)) (s .0 % 32) 1)
+    requires { ⌜ Roomy r had (now words) (withHandle (now handles) (slotOf (s .0)) handle) (withWaiting (now marks) (slotOf (s .0))) (now up) ⌝ }
+    ensures { λ k. ⌜ (now (handles .exit) ≡ withHandle (now (handles .entry)) (slotOf (s .0)) handle) × (now (marks .exit) ≡ withWaiting (now (marks .entry)) (slotOf (s .0)))
         × Finished r (parts (now (words .entry)) (now (handles .exit)) (now (marks .exit))) had (now (up .entry)) (now (words .exit)) (now (up .exit)) k ⌝ }
 {
-    let j = slot(s);
-    handles[j] = handle;
-    marks[j] = 1;
+    set_waiting(handles, marks, s, handle);
     let done = r.settle(words, handles, marks, up, had.up, NEVER);
     Counts {
         up: had.up + done.up,
@@ -59,8 +61,8 @@ pub(crate) fn ahead(
     handle: u32,
     time: u64,
 ) -> Counts
-    requires { ⌜ Ready r (now words) (now handles) (now marks) × (s .0 < 4096) ⌝ }
-    requires { ⌜ (32 ≤ length (now up)) × (32 ≤ length (now nack)) ⌝ }
+    requires { ⌜ Ready r (now words) (now handles) (now marks) × (s .0 < size) ⌝ }
+    requires { ⌜ (window ≤ length (now up)) × (window ≤ length (now nack)) ⌝ }
     requires { ⌜ IsAhead (r .current .0) (s .0) made (Waits handle) ⌝ }
     ensures { λ k. ⌜ DidAt (ahead window (recordIn r (now (words .entry)) (now (handles .entry)) (now (marks .entry))) time (s .0) made (waits handle ∷ []))
         (parts (now (words .entry)) (now (handles .entry)) (now (marks .entry)))
@@ -85,7 +87,7 @@ pub(crate) fn filled(
     time: u64,
 ) -> Counts
     requires { ⌜ Ready r (now words) (now handles) (now marks) × MissingAt r (now marks) (s .0) ⌝ }
-    requires { ⌜ 32 ≤ length (now up) ⌝ }
+    requires { ⌜ window ≤ length (now up) ⌝ }
     ensures { λ k. ⌜ DidAt (filledAt (recordIn r (now (words .entry)) (now (handles .entry)) (now (marks .entry))) time (s .0) handle)
         (parts (now (words .entry)) (now (handles .entry)) (now (marks .entry)))
         (parts (now (words .exit)) (now (handles .exit)) (now (marks .exit)))
@@ -96,36 +98,14 @@ pub(crate) fn filled(
     brought(kept, words, handles, marks, up, Counts::NONE, s, handle)
 }
 
-// Number s is the next expected one and nothing is missing: it goes up at once.
-pub(crate) fn handed_up(words: &mut [u64], up: &mut [u32], s: Seq, handle: u32, time: u64) -> Answer
-    requires { ⌜ (2 < length (now words)) × (0 < length (now up)) ⌝ }
-    ensures { λ a. ⌜ (now (words .exit) ≡ headed (now (words .entry)) (s .0) (next (s .0)) time) × (now (up .exit) ≡ set (now (up .entry)) 0 handle) × Says 0 1 0 0 0 a ⌝ }
-{
-    up[0] = handle;
-    Record::opened(s, time).stored(words);
-    Answer {
-        number: 0,
-        up: 1,
-        returned: 0,
-        nack: 0,
-        lost: 0,
-    }
-}
-
 // Number s waits already or lies before M: its handle comes back, and only the latest time changes.
 pub(crate) fn sent_back(words: &mut [u64], returned: &mut [u32], handle: u32, time: u64) -> Answer
-    requires { ⌜ (2 < length (now words)) × (0 < length (now returned)) ⌝ }
-    ensures { λ a. ⌜ (now (words .exit) ≡ set (now (words .entry)) 2 time) × (now (returned .exit) ≡ set (now (returned .entry)) 0 handle) × Says 0 0 1 0 0 a ⌝ }
+    requires { ⌜ 0 < length (now returned) ⌝ }
+    ensures { λ a. ⌜ (now (words .exit) ≡ withLatest (now (words .entry)) time) × (now (returned .exit) ≡ set (now (returned .entry)) 0 handle) × Says 0 0 1 0 0 a ⌝ }
 {
-    words[2] = time;
+    set_latest(words, time);
     returned[0] = handle;
-    Answer {
-        number: 0,
-        up: 0,
-        returned: 1,
-        nack: 0,
-        lost: 0,
-    }
+    accepted(0, 1, 0, 0)
 }
 
 // Number s is far: every waiting handle comes back, and the channel is as one that s has just opened.
@@ -140,8 +120,8 @@ pub(crate) fn restarted(
     handle: u32,
     time: u64,
 ) -> Answer
-    requires { ⌜ Ready r (now words) (now handles) (now marks) × (s .0 < 4096) ⌝ }
-    requires { ⌜ (32 ≤ length (now up)) × (32 ≤ length (now returned)) ⌝ }
+    requires { ⌜ Ready r (now words) (now handles) (now marks) × (s .0 < size) ⌝ }
+    requires { ⌜ (window ≤ length (now up)) × (window ≤ length (now returned)) ⌝ }
     ensures { λ a. ⌜ DidAt (restarted (recordIn r (now (words .entry)) (now (handles .entry)) (now (marks .entry))) time (s .0) handle)
         (parts (now (words .entry)) (now (handles .entry)) (now (marks .entry)))
         (parts (now (words .exit)) (now (handles .entry)) (now (marks .entry)))
@@ -149,7 +129,7 @@ pub(crate) fn restarted(
         (buffers (now (up .exit)) (now (returned .exit)) []) a ⌝ }
 {
     let back = hand(handles, marks, r.oldest, r.span(), returned);
-    let mut answer = handed_up(words, up, s, handle, time);
+    let mut answer = begun(words, up, s, handle, time);
     answer.returned = back;
     answer
 }

@@ -2,6 +2,8 @@
 ghost use Prim.Native.Nat.{_≤_, _<_};
 ghost use lib.ListN.{length};
 ghost use Rattle.larq.specs.Events.{frame};
+ghost use Rattle.larq.specs.Channel.{window};
+ghost use Rattle.ring.specs.Ring.{size};
 ghost use Rattle.place.specs.Call.{DidAt, Called, parts, buffers};
 ghost use Rattle.record.specs.Moving.{recordIn};
 ghost use Rattle.place.specs.Steps.{Ready, dataAt};
@@ -10,24 +12,22 @@ mod act;
 
 use crate::act::ahead;
 use crate::act::filled;
-use crate::act::handed_up;
 use crate::act::restarted;
 use crate::act::sent_back;
 use judging::Judged;
 use judging::Spot;
 use judging::judge;
 use judging::spot_of;
-use larq::WINDOW;
+use larq::ROOM;
 use place::Answer;
-use place::accepted;
+use place::begun;
+use place::counted;
 use place::refused;
 use record::Record;
 use ring::Seq;
 
-// What an answer may need of a buffer. A frame is lent no more of it: with a length that is known, the compiler keeps none at hand.
-const ROOM: usize = WINDOW as usize;
-
-// A data frame comes to the open place: it waits, goes up, comes back or restarts the channel.
+// A data frame comes to the open place: it waits, goes up, comes back or restarts the channel. It is lent no more of a buffer than an answer may
+// need: with a length that is known, the compiler keeps none at hand.
 pub fn data(
     words: &mut [u64],
     handles: &mut [u32],
@@ -84,8 +84,8 @@ fn arrive(
     handle: u32,
     time: u64,
 ) -> Answer
-    requires { ⌜ Ready r (now words) (now handles) (now marks) × (s .0 < 4096) ⌝ }
-    requires { ⌜ (32 ≤ length (now up)) × (32 ≤ length (now returned)) × (32 ≤ length (now nack)) ⌝ }
+    requires { ⌜ Ready r (now words) (now handles) (now marks) × (s .0 < size) ⌝ }
+    requires { ⌜ (window ≤ length (now up)) × (window ≤ length (now returned)) × (window ≤ length (now nack)) ⌝ }
     ensures { λ a. ⌜ DidAt (dataAt (recordIn r (now (words .entry)) (now (handles .entry)) (now (marks .entry))) time (s .0) handle)
         (parts (now (words .entry)) (now (handles .entry)) (now (marks .entry)))
         (parts (now (words .exit)) (now (handles .exit)) (now (marks .exit)))
@@ -93,7 +93,7 @@ fn arrive(
         (buffers (now (up .exit)) (now (returned .exit)) (now (nack .exit))) a ⌝ }
 {
     match spot_of(r, marks, s) {
-        Spot::Ahead(d) => accepted(ahead(
+        Spot::Ahead(d) => counted(ahead(
             r,
             words,
             handles,
@@ -105,8 +105,8 @@ fn arrive(
             handle,
             time,
         )),
-        Spot::Next => handed_up(words, up, s, handle, time),
-        Spot::Missing => accepted(filled(r, words, handles, marks, up, s, handle, time)),
+        Spot::Next => begun(words, up, s, handle, time),
+        Spot::Missing => counted(filled(r, words, handles, marks, up, s, handle, time)),
         Spot::Unwanted => sent_back(words, returned, handle, time),
         Spot::Far => restarted(r, words, handles, marks, up, returned, s, handle, time),
     }

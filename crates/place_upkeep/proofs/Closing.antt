@@ -5,12 +5,13 @@ use mathlib.Core.List.{List, []}
 use lib.ListN.{length, replicate}
 use Rattle.larq.specs.Answer.{Outcome}
 use Rattle.larq.specs.Events.{close, close-on, act-on}
+use Rattle.larq.specs.Channel.{window}
 use Rattle.record.specs.Buffers.{Laid}
 use Rattle.record.specs.Walk.{waitingOf, handNumbers}
 use Rattle.record.specs.Moving.{recordIn, spanIn}
 use Rattle.record.specs.declared.Record.{Record}
 use Rattle.record.proofs.Laying.{wrote-none, wrote-idle}
-use Rattle.place.specs.Call.{Parts, Buffers, parts, buffers, DidAt, Called}
+use Rattle.place.specs.Call.{Says, Parts, Buffers, parts, buffers, DidAt, Called}
 use Rattle.place.specs.Steps.{Ready}
 use Rattle.place.specs.declared.Answer.{Answer}
 use Rattle.place.proofs.Restarting.{wrote-waiting}
@@ -19,18 +20,17 @@ use Rattle.place.proofs.Calling.{did-nack, called-opened}
 
 -- the parts are zeros, each over its length
 module _ {r : Record} {W H K : List ℕ} (is-ready : Ready r W H K) where
-  pub closed-did : {n : ℕ} {w h k B b : List ℕ} {end : ℕ} → n ≡ spanIn r → Laid (waitingOf H K (r .oldest .0) (handNumbers H K n B)) 0 B b end
-      → 32 ≤ length B → w ≡ replicate (length W) 0 → h ≡ replicate (length H) 0 → k ≡ replicate (length K) 0
-      → DidAt (close-on (recordIn r W H K)) (parts W H K) (parts w h k) (buffers [] B []) (buffers [] b [])
-      (record { number = 0; up = 0; returned = end; nack = 0; lost = 0 })
-  closed-did {n} {w} {h} {k} {B} {b} {end} e laid room ew eh ek =
+  pub closed-did : {n : ℕ} {w h k B b : List ℕ} {end : ℕ} {a : Answer} → n ≡ spanIn r → Laid (waitingOf H K (r .oldest .0) (handNumbers H K n B)) 0 B b end
+      → window ≤ length B → w ≡ replicate (length W) 0 → h ≡ replicate (length H) 0 → k ≡ replicate (length K) 0
+      → Says 0 0 end 0 0 a → DidAt (close-on (recordIn r W H K)) (parts W H K) (parts w h k) (buffers [] B []) (buffers [] b []) a
+  closed-did e laid room ew eh ek says =
       record {
         answer = record {
-          number = refl;
-          up = wrote-none [];
-          returned = wrote-waiting is-ready e laid room;
-          nack = wrote-none [];
-          lost = refl;
+          number = says .number;
+          up = rw (says .up) (wrote-none []);
+          returned = rw (says .returned) (wrote-waiting is-ready e laid room);
+          nack = rw (says .nack) (wrote-none []);
+          lost = says .lost;
         };
         became = rw (ew, eh, ek, is-ready .sized .words, is-ready .sized .handles, is-ready .sized .marks) refl;
       }

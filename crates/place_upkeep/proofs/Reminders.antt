@@ -4,13 +4,13 @@ use mathlib.Core.Path.{_≡_, refl, ap, sym, _∙_}
 use mathlib.Core.Bool.{cond}
 use mathlib.Core.List.{List, []}
 use native.Mathlib.Omega.{arith}
-use lib.ListN.{set}
 use Rattle.ring.specs.Ring.{seen, Side, Ahead, Behind, Far}
 use Rattle.larq.specs.Channel as channel
-use Rattle.larq.specs.Channel.{reach, Channel}
+use Rattle.larq.specs.Channel.{reach, Channel, window}
 use Rattle.larq.specs.Answer.{refused}
 use Rattle.larq.specs.Events.{reminder, act-on, reminder-on, ahead, noted}
 use Rattle.larq.specs.Table.{notFar}
+use Rattle.slots.specs.Slots.{withLatest}
 use Rattle.record.specs.Place.{recordWith}
 use Rattle.place.specs.Call.{Parts, Buffers, parts, buffers, Says, DidAt, Called}
 use Rattle.record.specs.Moving.{recordIn}
@@ -37,7 +37,7 @@ module _ {r : Record} {W H K : List ℕ} (is-ready : Ready r W H K) (t : ℕ) wh
         → DidAt (reminderAt c t s) (parts W H K) after had has a
     reminder-ahead is did e = rw e (did-as (rule-by is) did)
 
-    pub reminder-behind : {d : ℕ} {w : List ℕ} {a : Answer} (U N : List ℕ) → seen (reach channel.window) (r .current .0) s ≡ Behind d → w ≡ set W 2 t
+    pub reminder-behind : {d : ℕ} {w : List ℕ} {a : Answer} (U N : List ℕ) → seen (reach channel.window) (r .current .0) s ≡ Behind d → w ≡ withLatest W t
         → Says 0 0 0 0 0 a → DidAt (reminderAt c t s) (parts W H K) (parts w H K) (buffers U [] N) (buffers U [] N) a
     reminder-behind U N is ew says =
         did-as (rule-by is ∙ ap (λ y. noted y t) (is-ready .held))

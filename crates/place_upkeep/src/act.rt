@@ -3,19 +3,23 @@
 ghost use mathlib.Core.Path.{_≡_};
 ghost use mathlib.Core.List.{[]};
 ghost use Prim.Native.Nat.{_+_, _-_, _≤_, _<_};
-ghost use lib.ListN.{length, set};
+ghost use lib.ListN.{length};
 ghost use Rattle.larq.specs.Channel.{window};
 ghost use Rattle.larq.specs.Events.{ahead, tick-on, close-on};
 ghost use Rattle.larq.specs.Settling.{hold};
+ghost use Rattle.ring.specs.Ring.{size};
+ghost use Rattle.slots.specs.Slots.{withLatest};
 ghost use Rattle.record.specs.Moving.{recordIn};
 ghost use Rattle.place.specs.Call.{DidAt, Says, parts, buffers};
 ghost use Rattle.place.specs.Steps.{Ready, answerOf, Missing, IsAhead};
 use larq::HOLD;
 use place::Answer;
+use place::accepted;
 use record::NEVER;
 use record::Record;
 use record::hand;
 use ring::Seq;
+use slots::set_latest;
 use stepping::Counts;
 use stepping::widened;
 use zeros::zero_u8;
@@ -34,8 +38,8 @@ pub(crate) fn reminded(
     made: u16,
     time: u64,
 ) -> Counts
-    requires { ⌜ Ready r (now words) (now handles) (now marks) × (s .0 < 4096) ⌝ }
-    requires { ⌜ (32 ≤ length (now up)) × (32 ≤ length (now nack)) ⌝ }
+    requires { ⌜ Ready r (now words) (now handles) (now marks) × (s .0 < size) ⌝ }
+    requires { ⌜ (window ≤ length (now up)) × (window ≤ length (now nack)) ⌝ }
     requires { ⌜ IsAhead (r .current .0) (s .0) made Missing ⌝ }
     ensures { λ k. ⌜ DidAt (ahead window (recordIn r (now (words .entry)) (now (handles .entry)) (now (marks .entry))) time (s .0) made [])
         (parts (now (words .entry)) (now (handles .entry)) (now (marks .entry)))
@@ -57,17 +61,10 @@ pub(crate) fn reminded(
 
 // Nothing but the latest time changes.
 pub(crate) fn noted(words: &mut [u64], time: u64) -> Answer
-    requires { ⌜ 2 < length (now words) ⌝ }
-    ensures { λ a. ⌜ (now (words .exit) ≡ set (now (words .entry)) 2 time) × Says 0 0 0 0 0 a ⌝ }
+    ensures { λ a. ⌜ (now (words .exit) ≡ withLatest (now (words .entry)) time) × Says 0 0 0 0 0 a ⌝ }
 {
-    words[2] = time;
-    Answer {
-        number: 0,
-        up: 0,
-        returned: 0,
-        nack: 0,
-        lost: 0,
-    }
+    set_latest(words, time);
+    accepted(0, 0, 0, 0)
 }
 
 // What is missing since before this is, at `time`, missing for 150 ticks or more.
@@ -86,7 +83,7 @@ pub(crate) fn ticked(
     up: &mut [u32],
     time: u64,
 ) -> Answer
-    requires { ⌜ Ready r (now words) (now handles) (now marks) × (32 ≤ length (now up)) ⌝ }
+    requires { ⌜ Ready r (now words) (now handles) (now marks) × (window ≤ length (now up)) ⌝ }
     ensures { λ a. ⌜ DidAt (tick-on (recordIn r (now (words .entry)) (now (handles .entry)) (now (marks .entry))) time)
         (parts (now (words .entry)) (now (handles .entry)) (now (marks .entry)))
         (parts (now (words .exit)) (now (handles .entry)) (now (marks .entry)))
@@ -95,13 +92,7 @@ pub(crate) fn ticked(
 {
     let kept = r.arrived(r.current, time);
     let done = kept.settle(words, handles, marks, up, 0, stale_before(time));
-    Answer {
-        number: 0,
-        up: done.up,
-        returned: 0,
-        nack: 0,
-        lost: done.lost,
-    }
+    accepted(done.up, 0, 0, done.lost)
 }
 
 // A close: every waiting handle comes back, and the place is zeros.
@@ -112,7 +103,7 @@ pub(crate) fn closed(
     marks: &mut [u8],
     returned: &mut [u32],
 ) -> Answer
-    requires { ⌜ Ready r (now words) (now handles) (now marks) × (32 ≤ length (now returned)) ⌝ }
+    requires { ⌜ Ready r (now words) (now handles) (now marks) × (window ≤ length (now returned)) ⌝ }
     ensures { λ a. ⌜ DidAt (close-on (recordIn r (now (words .entry)) (now (handles .entry)) (now (marks .entry))))
         (parts (now (words .entry)) (now (handles .entry)) (now (marks .entry)))
         (parts (now (words .exit)) (now (handles .exit)) (now (marks .exit)))
@@ -123,11 +114,5 @@ pub(crate) fn closed(
     zero_u64(words);
     zero_u32(handles);
     zero_u8(marks);
-    Answer {
-        number: 0,
-        up: 0,
-        returned: count,
-        nack: 0,
-        lost: 0,
-    }
+    accepted(0, count, 0, 0)
 }

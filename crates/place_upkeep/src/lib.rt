@@ -1,8 +1,10 @@
-// One place of the table: the events that bring no frame to one open channel, a reminder, a tick and a close, in place. Frames are channel's.
+// One place of the table: the events that bring no frame to one open channel, a reminder, a tick and a close, in place. Frames are place_frame's.
 ghost use Prim.Native.Nat.{_≤_, _<_};
 ghost use mathlib.Core.List.{[]};
 ghost use lib.ListN.{length};
 ghost use Rattle.larq.specs.Events.{reminder, tick, close};
+ghost use Rattle.larq.specs.Channel.{window};
+ghost use Rattle.ring.specs.Ring.{size};
 ghost use Rattle.record.specs.Moving.{recordIn};
 ghost use Rattle.place.specs.Call.{DidAt, Called, parts, buffers};
 ghost use Rattle.place.specs.Steps.{Ready, reminderAt};
@@ -16,7 +18,7 @@ use crate::act::ticked;
 use judging::Judged;
 use judging::judge;
 use place::Answer;
-use place::accepted;
+use place::counted;
 use place::refused;
 use record::Record;
 use ring::Seq;
@@ -32,8 +34,8 @@ fn remind(
     s: Seq,
     time: u64,
 ) -> Answer
-    requires { ⌜ Ready r (now words) (now handles) (now marks) × (s .0 < 4096) ⌝ }
-    requires { ⌜ (32 ≤ length (now up)) × (32 ≤ length (now nack)) ⌝ }
+    requires { ⌜ Ready r (now words) (now handles) (now marks) × (s .0 < size) ⌝ }
+    requires { ⌜ (window ≤ length (now up)) × (window ≤ length (now nack)) ⌝ }
     ensures { λ a. ⌜ DidAt (reminderAt (recordIn r (now (words .entry)) (now (handles .entry)) (now (marks .entry))) time (s .0))
         (parts (now (words .entry)) (now (handles .entry)) (now (marks .entry)))
         (parts (now (words .exit)) (now (handles .exit)) (now (marks .exit)))
@@ -48,7 +50,7 @@ fn remind(
     if !d.is_ahead() {
         return noted(words, time);
     }
-    accepted(reminded(r, words, handles, marks, up, nack, s, c.steps(s), time))
+    counted(reminded(r, words, handles, marks, up, nack, s, c.steps(s), time))
 }
 
 // A reminder comes to the open place.

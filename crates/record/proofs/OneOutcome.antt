@@ -1,6 +1,6 @@
 -- The contracts of `grown`, `settled`, `settle` and `hand` leave nothing open: any two outcomes that one of them allows for the same call are equal
 -- (document 01, 'How far a statement has to reach'). The others of this crate are equations. Assumes nothing.
-use Prim.Native.Nat.{ℕ, _+_, _-_}
+use Prim.Native.Nat.{ℕ, _+_}
 use mathlib.Core.Path.{_≡_, refl, sym, _∙_}
 use mathlib.Core.List.{List}
 use native.Mathlib.Omega.{arith}

@@ -1,10 +1,11 @@
--- Ring arithmetic of a window: numbers so many steps past another, their slots, and the span when C or M moves. Slots are numbers modulo 32,
+-- Ring arithmetic of a window: numbers so many steps past another, their slots, and the span when C or M moves. Slots are numbers modulo how many there are,
 -- which divides the ring's size. Assumes nothing.
 use Prim.Native.Nat.{ℕ, suc, _+_, _-_, _%_, _≤_, _<_}
 use mathlib.Core.Path.{_≡_, ap, sym, _∙_}
 use native.Mathlib.Omega.{arith}
 use Rattle.ring.specs.Ring.{size, forward, next, steps}
 use Rattle.ring.proofs.Steps.{forward-small, forward-forward, steps-forward, forward-steps}
+use Rattle.slots.specs.Slots.{slots, slotOf}
 use Rattle.record.specs.Place.{spanOf}
 
 pub forward-none : (m : ℕ) → m < size → forward m 0 ≡ m
@@ -13,17 +14,17 @@ forward-none m h = omega arith
 pub forward-next : (m j : ℕ) → forward (next m) j ≡ forward m (suc j)
 forward-next m j = omega arith
 
-pub slot-none : (m : ℕ) → m % 32 ≡ (m + 0) % 32
+pub slot-none : (m : ℕ) → slotOf m ≡ slotOf (m + 0)
 slot-none m = omega arith
 
-pub slot-next : (m j : ℕ) → (next m + j) % 32 ≡ (m + suc j) % 32
+pub slot-next : (m j : ℕ) → slotOf (next m + j) ≡ slotOf (m + suc j)
 slot-next m j = omega arith
 
--- numbers less than 32 apart have different slots
-pub slots-apart : (m j k : ℕ) → j < k → k < j + 32 → ((m + j) % 32 ≡ (m + k) % 32 → ⊥)
+-- numbers less apart than there are slots have different ones
+pub slots-apart : (m j k : ℕ) → j < k → k < j + slots → (slotOf (m + j) ≡ slotOf (m + k) → ⊥)
 slots-apart m j k p q = omega arith
 
-pub slot-steps : (m s : ℕ) → (m + steps m s) % 32 ≡ s % 32
+pub slot-steps : (m s : ℕ) → slotOf (m + steps m s) ≡ slotOf s
 slot-steps m s = omega arith
 
 -- Two numbers past m: the one is so many steps ahead of the other, or nearly the whole round.

@@ -1,18 +1,19 @@
 -- The turns of the loop in which M moves on: what M's walk makes of the rest is what it made of the whole. Document 01, 'Settling' and 'Tick'.
 -- Assumes nothing.
-use Prim.Native.Nat.{ℕ, _+_, _-_, _%_, _≤_, _<_}
+use Prim.Native.Nat.{ℕ, _+_, _-_, _≤_, _<_}
 use mathlib.Core.Path.{_≡_, refl, ap, sym, _∙_}
 use mathlib.Core.Bool.{Bool, true, false, cond}
 use mathlib.Core.List.{List, [], _∷_}
 use native.Mathlib.Omega.{arith}
 use native.Mathlib.Nat.{add-zero}
-use lib.ListN.{length, getD, set, length-set}
+use lib.ListN.{length, set, length-set}
 use lib.Seq.{sets}
 use borrow.Author.Tests.{lt-ltb, le-ltb, eq-eqb}
 use Rattle.ring.specs.Ring.{next}
 use Rattle.larq.specs.Channel.{Cell, missing}
 use Rattle.larq.specs.Settling.{walk, stays, handing, losing}
-use Rattle.record.specs.Place.{cellsFrom, cellAt, placeSized}
+use Rattle.slots.specs.Slots.{slots, slotOf, placeWords, isMissing, timeAt, handleAt, placeSized}
+use Rattle.record.specs.Place.{cellsFrom, cellAt}
 use Rattle.record.specs.Walk.{earlier, passes, walkFrom, Settles, most, settleNumbers}
 use Rattle.record.specs.Buffers.{Laid}
 use Rattle.record.specs.declared.Record.{Record}
@@ -24,9 +25,9 @@ use Rattle.record.proofs.Walks.{walk-first}
 
 -- Over how many numbers M walks, by what the code finds.
 pub record Fits (w h k : List ℕ) (at left : ℕ) (up : List ℕ) : Type 0 where
-  pub words : length w ≡ 35
-  pub handles : length h ≡ 32
-  pub marks : length k ≡ 32
+  pub words : length w ≡ placeWords
+  pub handles : length h ≡ slots
+  pub marks : length k ≡ slots
   pub room : left ≤ length up - at
 
 module _ (w h k : List ℕ) (n at : ℕ) (up : List ℕ) where
@@ -42,9 +43,9 @@ module _ (w h k : List ℕ) (n at : ℕ) (up : List ℕ) where
 
 -- What the loop keeps: `gone` handles went up and `lost` numbers were given up so far.
 pub record Settles-on (until : ℕ) (w h k : List ℕ) (m n at : ℕ) (before up : List ℕ) (i left gone lost : ℕ) : Type 0 where
-  pub words-sized : 0 < left → length w ≡ 35
-  pub handles-sized : 0 < left → length h ≡ 32
-  pub marks-sized : 0 < left → length k ≡ 32
+  pub words-sized : 0 < left → length w ≡ placeWords
+  pub handles-sized : 0 < left → length h ≡ slots
+  pub marks-sized : 0 < left → length k ≡ slots
   pub room : 0 < left → at + gone + left ≤ length up
   pub sized : length up ≡ length before
   pub few : gone + lost + left ≤ n
@@ -86,12 +87,12 @@ settles r s e rest c t =
     record { up = z .up-laid; lost = z .lost-all; oldest = z .oldest; current = c; latest = t }
 
 -- the parts are those of a place, and there is room for all that M passes: it walks as over all n numbers
-pub settles-all : {r : Record} {n until : ℕ} {w h k : List ℕ} {at : ℕ} {before after : List ℕ} {s : Settled} → length w ≡ 35 → length h ≡ 32
-    → length k ≡ 32 → at + passes (walkFrom until w h k (r .oldest .0) n) ≤ length before
+pub settles-all : {r : Record} {n until : ℕ} {w h k : List ℕ} {at : ℕ} {before after : List ℕ} {s : Settled} → length w ≡ placeWords → length h ≡ slots
+    → length k ≡ slots → at + passes (walkFrom until w h k (r .oldest .0) n) ≤ length before
     → Settles r (settleNumbers w h k n at before) until w h k at before after s → Settles r n until w h k at before after s
 settles-all {r} {n} {until} {w} {h} {k} {at} {before} a b c l x =
     let e = walk-first until (cellAt w h k) (r .oldest .0) n (length before - at) (omega arith) in
-    let y = rw (eq-eqb (length w) 35 a, eq-eqb (length h) 32 b, eq-eqb (length k) 32 c) at x in
+    let y = rw (eq-eqb (length w) placeWords a, eq-eqb (length h) slots b, eq-eqb (length k) slots c) at x in
     record {
       up = rw (e .0) at (y .up);
       lost = y .lost ∙ e .1;
@@ -116,23 +117,22 @@ module _ {until : ℕ} {w h k : List ℕ} {m n at : ℕ} {before up : List ℕ} 
   pub rests-none : left ≡ 0 → Rests until w h k m n at before up i gone lost
   rests-none z = rests [] (ap (walk (earlier until) i) (cells-from-none (cellAt w h k) i left z))
 
-  module _ {j : ℕ} (some : 0 < left) (at-slot : j ≡ i % 32) where
-    pub rests-missing : getD k j 0 ≡ 0 → until ≤ getD w (3 + j) 0 → Rests until w h k m n at before up i gone lost
-    rests-missing o l =
-        rests (missing (getD w (3 + i % 32) 0) ∷ cellsFrom (cellAt w h k) (next i) (left - 1))
+  module _ (some : 0 < left) where
+    pub rests-missing : {t : ℕ} → isMissing k (slotOf i) ≡ true → t ≡ timeAt w (slotOf i) → until ≤ t → Rests until w h k m n at before up i gone lost
+    rests-missing o since l =
+        rests (missing (timeAt w (slotOf i)) ∷ cellsFrom (cellAt w h k) (next i) (left - 1))
         (ap (walk (earlier until) i) (cells-from-suc (cellAt w h k) i left some)
-        ∙ rw (cell-missing w h k (i % 32) (rw at-slot at o), le-ltb (getD w (3 + i % 32) 0) until (rw at-slot at l)))
+        ∙ rw (cell-missing w h k (slotOf i) o, le-ltb (timeAt w (slotOf i)) until (rw since at l)))
 
-    handed-first : (getD k j 0 ≡ 0 → ⊥) → walkFrom until w h k i left ≡ handing (getD h j 0) (walkFrom until w h k (next i) (left - 1))
-    handed-first o =
-        rw at-slot
-        (ap (walk (earlier until) i) (cells-from-suc (cellAt w h k) i left some) ∙ rw (cell-waits w h k (i % 32) (rw at-slot at o)))
+    handed-first : isMissing k (slotOf i) ≡ false
+        → walkFrom until w h k i left ≡ handing (handleAt h (slotOf i)) (walkFrom until w h k (next i) (left - 1))
+    handed-first o = ap (walk (earlier until) i) (cells-from-suc (cellAt w h k) i left some) ∙ rw (cell-waits w h k (slotOf i) o)
 
     module _ {i′ : ℕ} (step : i′ ≡ next i) where
-      pub passes-waits : (getD k j 0 ≡ 0 → ⊥)
-          → Settles-on until w h k m n at before (set up (at + gone) (getD h j 0)) i′ (left - 1) (gone + 1) lost
-      passes-waits o =
-          let e = handed-first o in
+      pub passes-waits : {x : ℕ} → isMissing k (slotOf i) ≡ false → x ≡ handleAt h (slotOf i)
+          → Settles-on until w h k m n at before (set up (at + gone) x) i′ (left - 1) (gone + 1) lost
+      passes-waits {x} o is =
+          let e : walkFrom until w h k i left ≡ handing x (walkFrom until w h k (next i) (left - 1)) = rw is (handed-first o) in
           let longer = ap (λ v. length (v .up)) e in
           let on : at + (gone + 1) ≡ at + gone + 1 = omega arith in
           rw step
@@ -141,25 +141,25 @@ module _ {until : ℕ} {w h k : List ℕ} {m n at : ℕ} {before up : List ℕ} 
             handles-sized = λ _. keeps .handles-sized some;
             marks-sized = λ _. keeps .marks-sized some;
             room = λ _. simp length-set (omega (arith, keeps .room some));
-            sized = length-set up (at + gone) (getD h j 0) ∙ keeps .sized;
+            sized = length-set up (at + gone) x ∙ keeps .sized;
             few = omega (arith, keeps .few);
             end = omega (arith, longer, keeps .end);
             laid =
-                ap (λ (x : ℕ). sets (set up (at + gone) (getD h j 0)) x (walkFrom until w h k (next i) (left - 1) .up)) on
-                ∙ sets-more up (at + gone) (getD h j 0) (walkFrom until w h k (next i) (left - 1) .up)
+                ap (λ (y : ℕ). sets (set up (at + gone) x) y (walkFrom until w h k (next i) (left - 1) .up)) on
+                ∙ sets-more up (at + gone) x (walkFrom until w h k (next i) (left - 1) .up)
                 ∙ sym (ap (λ v. sets up (at + gone) (v .up)) e)
                 ∙ keeps .laid;
             lost-all = omega (arith, ap (λ v. v .lost) e, keeps .lost-all);
             oldest = sym (ap (λ v. v .oldest) e) ∙ keeps .oldest;
           })
 
-      pub passes-missing : getD k j 0 ≡ 0 → getD w (3 + j) 0 < until
+      pub passes-missing : {t : ℕ} → isMissing k (slotOf i) ≡ true → t ≡ timeAt w (slotOf i) → t < until
           → Settles-on until w h k m n at before up i′ (left - 1) gone (lost + 1)
-      passes-missing o l =
+      passes-missing o since l =
           let e : walkFrom until w h k i left ≡ losing (walkFrom until w h k i′ (left - 1)) =
           rw step
           (ap (walk (earlier until) i) (cells-from-suc (cellAt w h k) i left some)
-          ∙ rw (cell-missing w h k (i % 32) (rw at-slot at o), lt-ltb (getD w (3 + i % 32) 0) until (rw at-slot at l))) in
+          ∙ rw (cell-missing w h k (slotOf i) o, lt-ltb (timeAt w (slotOf i)) until (rw since at l))) in
           let longer = ap (λ v. length (v .up)) e in
           record {
             words-sized = λ _. keeps .words-sized some;

@@ -1,17 +1,18 @@
 -- The handles that wait among some numbers, and the turns of the loop that lays them into a buffer. Assumes nothing.
-use Prim.Native.Nat.{ℕ, zero, suc, _+_, _-_, _%_, _≤_, _<_}
+use Prim.Native.Nat.{ℕ, zero, suc, _+_, _-_, _≤_, _<_}
 use mathlib.Core.Path.{_≡_, refl, ap, sym, _∙_}
 use mathlib.Core.Bool.{Bool, true, false, cond, _&&_}
 use mathlib.Core.List.{List, [], _∷_}
 use native.Mathlib.Omega.{arith}
-use lib.Dec.{eqb, leb}
+use lib.Dec.{leb}
 use borrow.Author.Tests.{leb-true, le-leb, eq-eqb}
 use Rattle.wire.proofs.Joined.{and-left, and-right}
-use lib.ListN.{length, getD, set, length-set}
+use lib.ListN.{length, set, length-set}
 use lib.Seq.{sets}
 use Rattle.ring.specs.Ring.{next}
 use Rattle.larq.specs.Channel.{waits, missing, waiting}
-use Rattle.record.specs.Place.{cellsFrom, cellAt, placeSized}
+use Rattle.slots.specs.Slots.{slots, slotOf, placeWords, isMissing, timeAt, handleAt, placeSized}
+use Rattle.record.specs.Place.{cellsFrom, cellAt}
 use Rattle.record.specs.Walk.{waitingOf, handNumbers}
 use Rattle.record.specs.Buffers.{Laid}
 use Rattle.record.proofs.Windows.{cells-from-none, cells-from-suc, length-cells-from, cell-waits, cell-missing}
@@ -23,13 +24,13 @@ use Rattle.record.proofs.Laying.{sets-more}
 pub waiting-cells-from : (words handles marks : List ℕ) (m n : ℕ) → waiting (cellsFrom (cellAt words handles marks) m n) ≡ waitingOf handles marks m n
 unfolding cellsFrom
 waiting-cells-from words handles marks m zero = refl
-waiting-cells-from words handles marks m (suc n) = by-mark (eqb (getD marks (m % 32) 0) 0) (waiting-cells-from words handles marks (next m) n)
+waiting-cells-from words handles marks m (suc n) = by-mark (isMissing marks (slotOf m)) (waiting-cells-from words handles marks (next m) n)
   where
     by-mark : (b : Bool) → waiting (cellsFrom (cellAt words handles marks) (next m) n) ≡ waitingOf handles marks (next m) n
-        → waiting (cond b (missing (getD words (3 + m % 32) 0)) (waits (getD handles (m % 32) 0)) ∷ cellsFrom (cellAt words handles marks) (next m) n)
-        ≡ waiting (cond b (missing 0) (waits (getD handles (m % 32) 0)) ∷ cellsFrom (cellAt [] handles marks) (next m) n)
+        → waiting (cond b (missing (timeAt words (slotOf m))) (waits (handleAt handles (slotOf m))) ∷ cellsFrom (cellAt words handles marks) (next m) n)
+        ≡ waiting (cond b (missing 0) (waits (handleAt handles (slotOf m))) ∷ cellsFrom (cellAt [] handles marks) (next m) n)
     by-mark true i = i
-    by-mark false i = ap (λ l. getD handles (m % 32) 0 ∷ l) i
+    by-mark false i = ap (λ l. handleAt handles (slotOf m) ∷ l) i
 
 -- there are no more of them than numbers
 pub waiting-short : (handles marks : List ℕ) (m n : ℕ) → length (waitingOf handles marks m n) ≤ n
@@ -38,8 +39,8 @@ waiting-short handles marks m n =
 
 -- What the loop keeps: what is still to be laid from here is what was to be laid from the start.
 pub record Lays (h k : List ℕ) (m n : ℕ) (before out : List ℕ) (to i left : ℕ) : Type 0 where
-  pub handles-sized : 0 < left → length h ≡ 32
-  pub marks-sized : 0 < left → length k ≡ 32
+  pub handles-sized : 0 < left → length h ≡ slots
+  pub marks-sized : 0 < left → length k ≡ slots
   pub room : to + left ≤ length out
   pub sized : length out ≡ length before
   pub end : to + length (waitingOf h k i left) ≡ 0 + length (waitingOf h k m n)
@@ -47,15 +48,15 @@ pub record Lays (h k : List ℕ) (m n : ℕ) (before out : List ℕ) (to i left 
 
 -- before the first turn: all n numbers are still to be laid, or none
 pub lays-start : {left : ℕ} (h k : List ℕ) (m n : ℕ) (out : List ℕ) → left ≡ handNumbers h k n out → Lays h k m left out out 0 m left
-lays-start h k m n out e = rw e (by-test (placeSized 35 (length h) (length k) && leb n (length out)) refl)
+lays-start h k m n out e = rw e (by-test (placeSized placeWords (length h) (length k) && leb n (length out)) refl)
   where
-    by-test : (b : Bool) → (placeSized 35 (length h) (length k) && leb n (length out)) ≡ b → Lays h k m (cond b n 0) out out 0 m (cond b n 0)
+    by-test : (b : Bool) → (placeSized placeWords (length h) (length k) && leb n (length out)) ≡ b → Lays h k m (cond b n 0) out out 0 m (cond b n 0)
     by-test true f =
-        let sizes = place-sizes 35 (length h) (length k) (and-left _ (leb n (length out)) f) in
+        let sizes = place-sizes placeWords (length h) (length k) (and-left _ (leb n (length out)) f) in
         record {
           handles-sized = λ _. sizes .1;
           marks-sized = λ _. sizes .2;
-          room = omega (arith, leb-true n (length out) (and-right (placeSized 35 (length h) (length k)) _ f));
+          room = omega (arith, leb-true n (length out) (and-right (placeSized placeWords (length h) (length k)) _ f));
           sized = refl;
           end = refl;
           laid = refl;
@@ -71,10 +72,10 @@ lays-start h k m n out e = rw e (by-test (placeSized 35 (length h) (length k) &&
         }
 
 -- the slots are those of a place, and there is room for all n numbers: the waiting handles of all are laid
-pub hands-all : (h k : List ℕ) (m n : ℕ) {before after : List ℕ} {end : ℕ} → length h ≡ 32 → length k ≡ 32 → n ≤ length before
+pub hands-all : (h k : List ℕ) (m n : ℕ) {before after : List ℕ} {end : ℕ} → length h ≡ slots → length k ≡ slots → n ≤ length before
     → Laid (waitingOf h k m (handNumbers h k n before)) 0 before after end → Laid (waitingOf h k m n) 0 before after end
 hands-all h k m n {before} eh ek room laid =
-    rw (eq-eqb (length h) 32 eh, eq-eqb (length k) 32 ek, le-leb n (length before) room) at laid
+    rw (eq-eqb (length h) slots eh, eq-eqb (length k) slots ek, le-leb n (length before) room) at laid
 
 module _ {h k : List ℕ} {m n : ℕ} {before out : List ℕ} {to i left : ℕ} (keeps : Lays h k m n before out to i left) where
   pub lays-end : {n′ : ℕ} → n ≡ n′ → left ≡ 0 → Laid (waitingOf h k m n′) 0 before out to
@@ -82,24 +83,24 @@ module _ {h k : List ℕ} {m n : ℕ} {before out : List ℕ} {to i left : ℕ} 
       let e : waitingOf h k i left ≡ [] = ap waiting (cells-from-none (cellAt [] h k) i left z) in
       rw (← f) (record { end-is = omega (arith, ap length e, keeps .end); buffer = sym (ap (sets out to) e) ∙ keeps .laid })
 
-  module _ {j i′ : ℕ} (some : 0 < left) (at-slot : j ≡ i % 32) (step : i′ ≡ next i) where
-    pub lays-waits : (getD k j 0 ≡ 0 → ⊥) → Lays h k m n before (set out to (getD h j 0)) (to + 1) i′ (left - 1)
-    lays-waits o =
-        let e : waitingOf h k i left ≡ getD h j 0 ∷ waitingOf h k i′ (left - 1) =
-        rw (at-slot, step) (ap waiting (cells-from-suc (cellAt [] h k) i left some) ∙ rw (cell-waits [] h k (i % 32) (rw at-slot at o))) in
+  module _ {i′ : ℕ} (some : 0 < left) (step : i′ ≡ next i) where
+    pub lays-waits : {x : ℕ} → isMissing k (slotOf i) ≡ false → x ≡ handleAt h (slotOf i) → Lays h k m n before (set out to x) (to + 1) i′ (left - 1)
+    lays-waits {x} o is =
+        let e : waitingOf h k i left ≡ x ∷ waitingOf h k i′ (left - 1) =
+        rw (is, step) (ap waiting (cells-from-suc (cellAt [] h k) i left some) ∙ rw (cell-waits [] h k (slotOf i) o)) in
         record {
           handles-sized = λ _. keeps .handles-sized some;
           marks-sized = λ _. keeps .marks-sized some;
           room = simp length-set (omega (arith, keeps .room));
-          sized = length-set out to (getD h j 0) ∙ keeps .sized;
+          sized = length-set out to x ∙ keeps .sized;
           end = omega (arith, ap length e, keeps .end);
-          laid = sets-more out to (getD h j 0) (waitingOf h k i′ (left - 1)) ∙ ap (sets out to) (sym e) ∙ keeps .laid;
+          laid = sets-more out to x (waitingOf h k i′ (left - 1)) ∙ ap (sets out to) (sym e) ∙ keeps .laid;
         }
 
-    pub lays-missing : getD k j 0 ≡ 0 → Lays h k m n before out to i′ (left - 1)
+    pub lays-missing : isMissing k (slotOf i) ≡ true → Lays h k m n before out to i′ (left - 1)
     lays-missing o =
         let e : waitingOf h k i left ≡ waitingOf h k i′ (left - 1) =
-        rw step (ap waiting (cells-from-suc (cellAt [] h k) i left some) ∙ rw (cell-missing [] h k (i % 32) (rw at-slot at o))) in
+        rw step (ap waiting (cells-from-suc (cellAt [] h k) i left some) ∙ rw (cell-missing [] h k (slotOf i) o)) in
         record {
           handles-sized = λ _. keeps .handles-sized some;
           marks-sized = λ _. keeps .marks-sized some;

@@ -1,6 +1,6 @@
 -- Laws of M's walk over a window: how many numbers it passes and what is left, that it hands up only what waits, and how settling a window
 -- that is too wide comes apart: M first passes what is too much, and then those that wait. Document 01, 'Settling'. Assumes nothing.
-use Prim.Native.Nat.{ℕ, zero, suc, _+_, _-_, _%_, _≤_, _<_}
+use Prim.Native.Nat.{ℕ, zero, suc, _+_, _-_, _≤_, _<_}
 use mathlib.Core.Path.{_≡_, refl, ap, sym, _∙_}
 use mathlib.Core.Bool.{Bool, true, false, cond}
 use mathlib.Core.List.{List, [], _∷_, _++_}
@@ -11,6 +11,7 @@ use borrow.Author.Tests.{lt-ltb, le-ltb, leb-true, leb-false}
 use Rattle.ring.specs.Ring.{size, forward, next}
 use Rattle.larq.specs.Channel.{Cell, waits, missing, waiting, headMissing}
 use Rattle.larq.specs.Settling.{Walked, walk, stays, handing, losing, wide, hold, stale}
+use Rattle.slots.specs.Slots.{slotOf}
 use Rattle.record.specs.Place.{cellsFrom}
 use Rattle.record.specs.Walk.{earlier, passes, most}
 use Rattle.record.proofs.Rounds.{forward-none, forward-next}
@@ -178,10 +179,10 @@ module _ (until : ℕ) where
   walk-part : (f : ℕ → Cell ℕ) (m j n : ℕ) → j ≤ n → passes (on m (cellsFrom f m n)) ≤ j → Alike (on m (cellsFrom f m j)) (on m (cellsFrom f m n))
   unfolding cellsFrom
   walk-part f m zero zero h l = (refl, refl, refl)
-  walk-part f m zero (suc n) h l = none-passed m (f (m % 32)) (cellsFrom f (next m) n) l
+  walk-part f m zero (suc n) h l = none-passed m (f (slotOf m)) (cellsFrom f (next m) n) l
   walk-part f m (suc j) zero h l = absurd (let z : ⊥ = omega arith in z)
   walk-part f m (suc j) (suc n) h l =
-      one-passed m (f (m % 32)) (cellsFrom f (next m) n) (cellsFrom f (next m) j) j (walk-part f (next m) j n (omega arith)) l
+      one-passed m (f (slotOf m)) (cellsFrom f (next m) n) (cellsFrom f (next m) j) j (walk-part f (next m) j n (omega arith)) l
 
   pub walk-first : (f : ℕ → Cell ℕ) (m n room : ℕ) → passes (on m (cellsFrom f m n)) ≤ room → Alike (on m (cellsFrom f m (most n room))) (on m (cellsFrom f m n))
   walk-first f m n room l = by-test (leb n room) refl

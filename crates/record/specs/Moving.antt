@@ -1,12 +1,10 @@
 -- What a record by value means, and what a step ahead does to its window.
 use Prim.Native.Nat.{ℕ, _+_, _-_}
 use mathlib.Core.Path.{_≡_}
-use mathlib.Core.Bool.{cond}
 use mathlib.Core.List.{List}
-use lib.ListN.{length, set}
-use lib.Dec.{ltb}
 use Rattle.ring.specs.Ring.{forward, steps}
-use Rattle.larq.specs.Channel.{Channel}
+use Rattle.larq.specs.Channel.{Channel, window}
+use Rattle.slots.specs.Slots.{withHead}
 use Rattle.record.specs.Place.{spanOf, recordWith}
 use Rattle.record.specs.declared.Record.{Record}
 use Rattle.record.specs.declared.Grown.{Grown}
@@ -19,17 +17,13 @@ recordIn r words handles marks = recordWith (r .current .0) (r .oldest .0) (r .l
 abbrev pub spanIn : Record → ℕ
 spanIn r = spanOf (r .current .0) (r .oldest .0)
 
--- a place's words with C, M and the latest time put anew
-abbrev pub headed : List ℕ → ℕ → ℕ → ℕ → List ℕ
-headed words c m t = set (set (set words 0 c) 1 m) 2 t
-
--- the words when the record is laid down in them, where there are so many
+-- a place's words when the record is laid down in them
 abbrev pub storedIn : Record → List ℕ → List ℕ
-storedIn r words = cond (ltb 2 (length words)) (headed words (r .current .0) (r .oldest .0) (r .latest)) words
+storedIn r words = withHead words (r .current .0) (r .oldest .0) (r .latest)
 
 -- a step ahead to s, by which so many numbers become missing: the window when M has passed what is then too much
 pub record IsGrown (r : Record) (s made time : ℕ) (g : Grown) : Type 0 where
-  pub over : g .over ≡ spanIn r + steps (r .current .0) s - 32
+  pub over : g .over ≡ spanIn r + steps (r .current .0) s - window
   pub old : g .old ≡ g .over - (g .over - spanIn r)
   pub first : g .first .0 ≡ forward (r .current .0) (1 + (g .over - spanIn r))
   pub count : g .count ≡ made - (g .over - spanIn r)

@@ -7,7 +7,8 @@ use lib.ListN.{length}
 use lib.Dec.{ltb, leb}
 use Rattle.larq.specs.Channel.{waiting}
 use Rattle.larq.specs.Settling.{Walked, walk}
-use Rattle.record.specs.Place.{cellsFrom, cellAt, placeSized}
+use Rattle.slots.specs.Slots.{placeWords, placeSized}
+use Rattle.record.specs.Place.{cellsFrom, cellAt}
 use Rattle.record.specs.Buffers.{Laid}
 use Rattle.record.specs.declared.Record.{Record}
 use Rattle.record.specs.declared.window.Settled.{Settled}
@@ -46,4 +47,4 @@ waitingOf handles marks m n = waiting (cellsFrom (cellAt [] handles marks) m n)
 
 -- of how many of n numbers the waiting handles are laid down: of all, or of none where the slots are not those of a place or n have no room
 abbrev pub handNumbers : List ℕ → List ℕ → ℕ → List ℕ → ℕ
-handNumbers h k n out = cond (placeSized 35 (length h) (length k) && leb n (length out)) n 0
+handNumbers h k n out = cond (placeSized placeWords (length h) (length k) && leb n (length out)) n 0

@@ -2,25 +2,23 @@
 // What becomes of its window is said here; the loops over a window's slots are in window.rt. What is decided of an event is judging's, the
 // step ahead in place stepping's.
 ghost use mathlib.Core.Path.{_≡_};
-ghost use Prim.Native.Nat.{_-_, _%_};
+ghost use Prim.Native.Nat.{_-_};
 ghost use Rattle.ring.specs.Ring.{forward, next};
 ghost use Rattle.larq.specs.Channel.{window};
 ghost use Rattle.larq.specs.Table.{lentEnough};
-ghost use Rattle.record.specs.Place.{spanOf, placeSized, placeLent};
+ghost use Rattle.record.specs.Place.{spanOf, placeLent};
 ghost use Rattle.record.specs.Moving.{IsGrown, storedIn};
 
 mod window;
 
+use larq::ROOM;
 use larq::WINDOW;
 use ring::Seq;
+use slots::is_place;
+use slots::set_head;
 pub use window::NEVER;
 pub use window::Settled;
 pub use window::hand;
-
-// How many words a place has, and how many slots: a handle and a mark each.
-pub const WORDS: usize = 35;
-
-pub const SLOTS: usize = 32;
 
 pub struct Record {
     pub current: Seq,
@@ -38,20 +36,6 @@ pub struct Grown {
     pub count: u16,
 }
 
-// The slot of number n.
-pub fn slot(n: Seq) -> usize
-    ensures { λ r. ⌜ r ≡ n .0 % 32 ⌝ }
-{
-    (n.0 % 32) as usize
-}
-
-// Whether parts of these lengths are those of a place.
-pub(crate) fn is_whole(words: usize, handles: usize, marks: usize) -> bool
-    ensures { λ r. ⌜ r ≡ placeSized words handles marks ⌝ }
-{
-    (words == WORDS) & ((handles == SLOTS) & (marks == SLOTS))
-}
-
 // Whether the parts and the buffers are as long as they should be: number 1.
 pub fn lent_enough(
     words: usize,
@@ -63,8 +47,7 @@ pub fn lent_enough(
 ) -> bool
     ensures { λ r. ⌜ r ≡ lentEnough window (placeLent words handles marks up returned nack) ⌝ }
 {
-    let room = WINDOW as usize;
-    ((room <= up) & ((room <= returned) & (room <= nack))) & is_whole(words, handles, marks)
+    ((ROOM <= up) & ((ROOM <= returned) & (ROOM <= nack))) & is_place(words, handles, marks)
 }
 
 // By how much a exceeds b, or 0.
@@ -118,13 +101,7 @@ impl Record {
     pub fn stored(self, words: &mut [u64])
         ensures { λ _. ⌜ now (words .exit) ≡ storedIn self (now (words .entry)) ⌝ }
     {
-        if 2 < words.len() {
-            let c = self.current;
-            let m = self.oldest;
-            words[0] = c.0 as u64;
-            words[1] = m.0 as u64;
-            words[2] = self.latest;
-        }
+        set_head(words, self.current, self.oldest, self.latest);
     }
 
     // C comes to s at this time, with `made` numbers from C + 1 on missing, and M passes what is then too much for the window.

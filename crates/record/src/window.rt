@@ -7,10 +7,12 @@ ghost use Rattle.record.specs.Moving.{spanIn, storedIn};
 ghost use Rattle.record.specs.Walk.{Settles, most, settleNumbers, handNumbers, waitingOf};
 ghost use Rattle.record.specs.Buffers.{Laid};
 use crate::Record;
-use crate::WORDS;
-use crate::is_whole;
-use crate::slot;
 use ring::Seq;
+use slots::WORDS;
+use slots::handle_of;
+use slots::is_missing;
+use slots::is_place;
+use slots::time_of;
 
 // A record whose M has moved on, how many handles went up, and how many numbers were given up.
 pub struct Settled {
@@ -60,21 +62,21 @@ impl Record {
     {
         let mut kept = self;
         let mut left = all_or_none(
-            is_whole(words.len(), handles.len(), marks.len()),
+            is_place(words.len(), handles.len(), marks.len()),
             least(self.span(), room_from(at, up.len())),
         );
         let mut gone: usize = 0;
         let mut lost: usize = 0;
         while 0 < left {
-            let j = slot(kept.oldest);
-            if marks[j] != 0 {
-                up[at + gone] = handles[j];
-                gone += 1;
-            } else {
-                if until <= words[3 + j] {
+            let m = kept.oldest;
+            if is_missing(marks, m) {
+                if until <= time_of(words, m) {
                     break;
                 }
                 lost += 1;
+            } else {
+                up[at + gone] = handle_of(handles, m);
+                gone += 1;
             }
             kept = kept.moved(1);
             left -= 1;
@@ -114,15 +116,14 @@ pub fn hand(handles: &[u32], marks: &[u8], from: Seq, n: u16, out: &mut [u32]) -
         0 (now (out .entry)) (now (out .exit)) r ⌝ }
 {
     let mut left = all_or_none(
-        is_whole(WORDS, handles.len(), marks.len()) & (n as usize <= out.len()),
+        is_place(WORDS, handles.len(), marks.len()) & (n as usize <= out.len()),
         n,
     );
     let mut to: usize = 0;
     let mut i = from;
     while 0 < left {
-        let j = slot(i);
-        if marks[j] != 0 {
-            out[to] = handles[j];
+        if !is_missing(marks, i) {
+            out[to] = handle_of(handles, i);
             to += 1;
         }
         i = i.forward(1);

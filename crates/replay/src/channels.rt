@@ -1,29 +1,34 @@
 // The four channel events and the look at a channel's record: each goes to the table, and its line tells the answer.
 use crate::text;
 use crate::text::Line;
+use larq::ROOM;
 use place::Answer;
+use place::accepted;
 use ring::Seq;
 use session::Body;
 use session::Key;
+use table::KEYS_IN_ALL;
+use table::SLOTS_IN_ALL;
+use table::WORDS_IN_ALL;
 use table_calls::View;
 
 // The lent table (docs/LAYOUT.md, 'The channel table').
-pub(crate) type Keys = [u64; 128];
+pub(crate) type Keys = [u64; KEYS_IN_ALL];
 
-pub(crate) type Words = [u64; 2240];
+pub(crate) type Words = [u64; WORDS_IN_ALL];
 
-pub(crate) type Handles = [u32; 2048];
+pub(crate) type Handles = [u32; SLOTS_IN_ALL];
 
-pub(crate) type Marks = [u8; 2048];
+pub(crate) type Marks = [u8; SLOTS_IN_ALL];
 
 // An answer with its three lists, and the kind of the event that it is to (docs/LAYOUT.md, 'Sessions'), 0 where it is to none of the four.
 // The events give this and tell nothing: a function that has both the table and the line in hand is dear to check.
 struct Told {
     kind: u8,
     answer: Answer,
-    up: [u32; 32],
-    returned: [u32; 32],
-    nack: [u16; 32],
+    up: [u32; ROOM],
+    returned: [u32; ROOM],
+    nack: [u16; ROOM],
 }
 
 pub(crate) fn answer(
@@ -62,19 +67,12 @@ fn acted(
 }
 
 fn nothing() -> Told {
-    let answer = Answer {
-        number: 0,
-        up: 0,
-        returned: 0,
-        nack: 0,
-        lost: 0,
-    };
     Told {
         kind: 0,
-        answer,
-        up: [0; 32],
-        returned: [0; 32],
-        nack: [0; 32],
+        answer: accepted(0, 0, 0, 0),
+        up: [0; ROOM],
+        returned: [0; ROOM],
+        nack: [0; ROOM],
     }
 }
 
@@ -88,9 +86,9 @@ fn data(
     number: u16,
     handle: u32,
 ) -> Told {
-    let mut up = [0u32; 32];
-    let mut returned = [0u32; 32];
-    let mut nack = [0u16; 32];
+    let mut up = [0u32; ROOM];
+    let mut returned = [0u32; ROOM];
+    let mut nack = [0u16; ROOM];
     let to = session::octets(key.destination);
     let from = session::octets(key.source);
     let answer = table_frame::data(
@@ -126,9 +124,9 @@ fn reminder(
     time: u64,
     number: u16,
 ) -> Told {
-    let mut up = [0u32; 32];
-    let mut returned = [0u32; 32];
-    let mut nack = [0u16; 32];
+    let mut up = [0u32; ROOM];
+    let mut returned = [0u32; ROOM];
+    let mut nack = [0u16; ROOM];
     let to = session::octets(key.destination);
     let from = session::octets(key.source);
     let answer = table_upkeep::reminder(
@@ -162,9 +160,9 @@ fn tick(
     key: Key,
     time: u64,
 ) -> Told {
-    let mut up = [0u32; 32];
-    let mut returned = [0u32; 32];
-    let mut nack = [0u16; 32];
+    let mut up = [0u32; ROOM];
+    let mut returned = [0u32; ROOM];
+    let mut nack = [0u16; ROOM];
     let to = session::octets(key.destination);
     let from = session::octets(key.source);
     let answer = table_upkeep::tick(
@@ -197,9 +195,9 @@ fn close(
     key: Key,
     time: u64,
 ) -> Told {
-    let mut up = [0u32; 32];
-    let mut returned = [0u32; 32];
-    let mut nack = [0u16; 32];
+    let mut up = [0u32; ROOM];
+    let mut returned = [0u32; ROOM];
+    let mut nack = [0u16; ROOM];
     let to = session::octets(key.destination);
     let from = session::octets(key.source);
     let answer = table_upkeep::close(
@@ -260,8 +258,8 @@ fn look(
     at: usize,
     key: Key,
 ) -> usize {
-    let mut waits = [0u8; 32];
-    let mut values = [0u64; 32];
+    let mut waits = [0u8; ROOM];
+    let mut values = [0u64; ROOM];
     let to = session::octets(key.destination);
     let from = session::octets(key.source);
     let view = table_calls::look(
@@ -279,7 +277,13 @@ fn look(
 }
 
 // The line of a look.
-fn show(line: &mut Line, start: usize, view: View, waits: &[u8; 32], values: &[u64; 32]) -> usize {
+fn show(
+    line: &mut Line,
+    start: usize,
+    view: View,
+    waits: &[u8; ROOM],
+    values: &[u64; ROOM],
+) -> usize {
     let numbers = [
         view.number as u64,
         view.current as u64,
@@ -298,8 +302,8 @@ fn cells(
     start: usize,
     oldest: u16,
     span: usize,
-    waits: &[u8; 32],
-    values: &[u64; 32],
+    waits: &[u8; ROOM],
+    values: &[u64; ROOM],
 ) -> usize {
     if span == 0 {
         return text::word(line, start, b"-");
@@ -307,7 +311,7 @@ fn cells(
     let mut at = start;
     let mut i = 0;
     let mut number = Seq(oldest);
-    while i < 32 && i < span {
+    while i < ROOM && i < span {
         at = cell(line, at, i, number, waits[i], values[i]);
         number = number.forward(1);
         i += 1;

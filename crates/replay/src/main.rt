@@ -12,6 +12,9 @@ use channels::Marks;
 use channels::Words;
 use session::Body;
 use stream::Entry;
+use table::KEYS_IN_ALL;
+use table::SLOTS_IN_ALL;
+use table::WORDS_IN_ALL;
 
 // What an entry leads to: the next one, with the station as it then is, or the end of the run.
 enum Turn {
@@ -20,10 +23,10 @@ enum Turn {
 }
 
 fn main() {
-    let mut keys = [0u64; 128];
-    let mut words = [0u64; 2240];
-    let mut handles = [0u32; 2048];
-    let mut marks = [0u8; 2048];
+    let mut keys = [0u64; KEYS_IN_ALL];
+    let mut words = [0u64; WORDS_IN_ALL];
+    let mut handles = [0u32; SLOTS_IN_ALL];
+    let mut marks = [0u8; SLOTS_IN_ALL];
     let mut body = [0u8; 65536];
     let mut station = Station::fresh(0);
     let mut index: u64 = 0;

@@ -1,4 +1,5 @@
 // Lines of text, put together in a buffer of the caller's: each function lays something at a place of the line and gives the place after it.
+use larq::ROOM;
 use libc::STDERR_FILENO;
 use libc::STDOUT_FILENO;
 
@@ -80,7 +81,7 @@ pub(crate) fn handles(
     line: &mut Line,
     start: usize,
     name: &[u8],
-    all: &[u32; 32],
+    all: &[u32; ROOM],
     count: usize,
 ) -> usize {
     let mut at = word(line, start, name);
@@ -88,7 +89,7 @@ pub(crate) fn handles(
         return word(line, at, b"-");
     }
     let mut i = 0;
-    while i < 32 && i < count {
+    while i < ROOM && i < count {
         at = entry(line, at, i, handle(all[i]));
         i += 1;
     }
@@ -100,7 +101,7 @@ pub(crate) fn numbers(
     line: &mut Line,
     start: usize,
     name: &[u8],
-    all: &[u16; 32],
+    all: &[u16; ROOM],
     count: usize,
 ) -> usize {
     let mut at = word(line, start, name);
@@ -108,7 +109,7 @@ pub(crate) fn numbers(
         return word(line, at, b"-");
     }
     let mut i = 0;
-    while i < 32 && i < count {
+    while i < ROOM && i < count {
         at = entry(line, at, i, number(all[i]));
         i += 1;
     }

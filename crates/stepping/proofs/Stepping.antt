@@ -11,6 +11,8 @@ use Rattle.wire.proofs.Joined.{and-left, and-right}
 use Rattle.ring.specs.Ring.{steps}
 use Rattle.larq.specs.Channel as channel
 use Rattle.larq.specs.Table.{lentEnough}
+use Rattle.larq.specs.Channel.{window}
+use Rattle.slots.specs.Slots.{slots, placeWords}
 use Rattle.record.specs.Buffers.{Laid}
 use Rattle.record.specs.Place.{placeLent}
 use Rattle.record.specs.Moving.{spanIn, IsGrown}
@@ -24,7 +26,7 @@ use Rattle.record.proofs.Waiting.{waiting-short, hands-all}
 -- what the test says, of a step to s that makes so many numbers missing
 pub record Fits (r : Record) (s made : ℕ) (w h k u q : List ℕ) : Type 0 where
   pub enough : Enough (length w) (length h) (length k) (length u) (length u) (length q)
-  pub narrow : spanIn r ≤ 32
+  pub narrow : spanIn r ≤ window
   pub few : made ≤ steps (r .current .0) s
 
 module _ (r : Record) (s made : ℕ) (w h k u q : List ℕ) where
@@ -34,25 +36,25 @@ module _ (r : Record) (s made : ℕ) (w h k u q : List ℕ) where
       let rest = and-right lent _ e in
       record {
         enough = enough-of (length w) (length h) (length k) (length u) (length u) (length q) (and-left lent _ e);
-        narrow = leb-true (spanIn r) 32 (and-left (leb (spanIn r) 32) _ rest);
-        few = leb-true made (steps (r .current .0) s) (and-right (leb (spanIn r) 32) _ rest);
+        narrow = leb-true (spanIn r) window (and-left (leb (spanIn r) window) _ rest);
+        few = leb-true made (steps (r .current .0) s) (and-right (leb (spanIn r) window) _ rest);
       }
 
   pub can-step : Fits r s made w h k u q → canStep r s made w h k u q ≡ true
   can-step f =
       rw (
-        le-leb 32 (length u) (f .enough .up-room),
-        le-leb 32 (length q) (f .enough .nack-room),
-        eq-eqb (length w) 35 (f .enough .words-sized),
-        eq-eqb (length h) 32 (f .enough .handles-sized),
-        eq-eqb (length k) 32 (f .enough .marks-sized),
-        le-leb (spanIn r) 32 (f .narrow),
+        le-leb window (length u) (f .enough .up-room),
+        le-leb window (length q) (f .enough .nack-room),
+        eq-eqb (length w) placeWords (f .enough .words-sized),
+        eq-eqb (length h) slots (f .enough .handles-sized),
+        eq-eqb (length k) slots (f .enough .marks-sized),
+        le-leb (spanIn r) window (f .narrow),
         le-leb made (steps (r .current .0) s) (f .few),
       )
 
 -- M goes by no more numbers at once than it has to pass, and no more are asked for than the window has.
 module _ {r : Record} {w h k u q : List ℕ} {s made t : ℕ} {to : Grown} (fits : Fits r s made w h k u q) (is : IsGrown r s made t to) where
-  pub asked-few : to .count ≤ 32
+  pub asked-few : to .count ≤ window
   asked-few = omega (arith, is .count, is .over, fits .narrow, fits .few)
 
   module _ {u′ : List ℕ} {end : ℕ} (hands : Laid (waitingOf h k (r .oldest .0) (handNumbers h k (to .old) u)) 0 u u′ end) where

@@ -1,14 +1,15 @@
 -- The step ahead over the slots of a place. Document 01, 'Data', 'Reminder' and 'Settling'.
-use Prim.Native.Nat.{ℕ, zero, suc, _+_, _-_, _%_}
+use Prim.Native.Nat.{ℕ, zero, suc, _-_}
 use mathlib.Core.Path.{_≡_}
 use mathlib.Core.Bool.{Bool, true, false, _&&_}
 use mathlib.Core.List.{List}
-use lib.ListN.{length, set}
+use lib.ListN.{length}
 use lib.Seq.{sets}
 use lib.Dec.{leb}
 use Rattle.ring.specs.Ring.{steps, next, rising}
 use Rattle.larq.specs.Channel.{window}
 use Rattle.larq.specs.Table.{Lent, lentEnough}
+use Rattle.slots.specs.Slots.{slotOf, withTime, withMissing}
 use Rattle.record.specs.Buffers.{Laid}
 use Rattle.record.specs.Place.{placeLent}
 use Rattle.record.specs.Moving.{spanIn, IsGrown}
@@ -18,15 +19,22 @@ use Rattle.record.specs.declared.Grown.{Grown}
 use Rattle.stepping.specs.declared.Counts.{Counts}
 use Rattle.stepping.specs.declared.Passed.{Passed}
 
--- a list with v at the slots of n numbers from m on, of which the first slot stands at index base
-unfoldable pub stamped : ℕ → List ℕ → ℕ → ℕ → ℕ → List ℕ
-stamped base l m zero v = l
-stamped base l m (suc n) v = stamped base (set l (base + m % 32) v) (next m) n v
+-- a list with a store at the slots of n numbers from m on
+unfoldable pub stamped : (List ℕ → ℕ → List ℕ) → List ℕ → ℕ → ℕ → List ℕ
+stamped put l m zero = l
+stamped put l m (suc n) = stamped put (put l (slotOf m)) (next m) n
+
+-- a place's words and its marks when n numbers from m on have become missing at a time
+abbrev pub timesMissing : List ℕ → ℕ → ℕ → ℕ → List ℕ
+timesMissing words m n time = stamped (λ w j. withTime w j time) words m n
+
+abbrev pub marksMissing : List ℕ → ℕ → ℕ → List ℕ
+marksMissing marks m n = stamped withMissing marks m n
 
 -- n numbers from m on were made missing at a time, and asked for
 pub record Missed (m n time : ℕ) (w k q w′ k′ q′ : List ℕ) : Type 0 where
-  pub words : w′ ≡ stamped 3 w m n time
-  pub marks : k′ ≡ stamped 0 k m n 0
+  pub words : w′ ≡ timesMissing w m n time
+  pub marks : k′ ≡ marksMissing k m n
   pub nack : q′ ≡ sets q 0 (rising m n)
 
 -- a step by d numbers, `made` of which become missing, can be taken: parts and buffers are as long as they should be, and the window is not too wide

@@ -12,8 +12,8 @@ use record::Grown;
 use record::Record;
 use record::hand;
 use record::lent_enough;
-use record::slot;
 use ring::Seq;
+use slots::set_missing;
 
 // What a call answers, so far or in all: handles gone up, numbers asked for, numbers given up. It is handed on instead of an answer, which is
 // put together once.
@@ -46,7 +46,6 @@ fn miss(
     n: u16,
     time: u64,
 ) -> usize
-    requires { ⌜ (length (now words) ≡ 35) × (length (now marks) ≡ 32) ⌝ }
     requires { ⌜ n ≤ length (now nack) ⌝ }
     ensures { λ r. ⌜ (r ≡ n) × Missed (from .0) n time (now (words .entry)) (now (marks .entry)) (now (nack .entry)) (now (words .exit)) (now (marks .exit)) (now (nack .exit)) ⌝ }
 {
@@ -54,9 +53,7 @@ fn miss(
     let mut left = n;
     let mut to: usize = 0;
     while 0 < left {
-        let j = slot(i);
-        words[3 + j] = time;
-        marks[j] = 0;
+        set_missing(words, marks, i, time);
         nack[to] = i.0;
         to += 1;
         i = i.forward(1);

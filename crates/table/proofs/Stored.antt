@@ -9,9 +9,10 @@ use lib.ListN.{getD}
 use lib.Dec.{eqb}
 use Rattle.larq.specs.Channel.{Channel}
 use Rattle.larq.specs.Table.{Key, sameKey, Place, free, held}
+use Rattle.slots.specs.Slots.{slots, placeWords}
 use Rattle.record.specs.Place.{recordOf}
 use Rattle.table.specs.First.{firstPlace, stores, storesNone, places}
-use Rattle.table.specs.Key.{firstWord, storedKey}
+use Rattle.table.specs.Key.{firstWord, storedKey, keyWords}
 use Rattle.table.specs.Table.{Slices, slices, part, placeOf, placeAt, zeros}
 use Rattle.table.specs.Way.{placeFor}
 use Rattle.table.specs.Addressed.{isOf, isFree}
@@ -74,38 +75,38 @@ free-words a b c = go (eqb a 0)
     go false = refl
 
 module _ (keys : List ℕ) (i : ℕ) where
-  first-at : getD (part 2 i keys) 0 0 ≡ getD keys (2 * i) 0
-  first-at = part-at 2 i keys 0 (omega arith) ∙ ap (λ (j : ℕ). getD keys j 0) (let e : 2 * i + 0 ≡ 2 * i = omega arith in e)
+  first-at : getD (part keyWords i keys) 0 0 ≡ getD keys (keyWords * i) 0
+  first-at = part-at keyWords i keys 0 (omega arith) ∙ ap (λ (j : ℕ). getD keys j 0) (let e : keyWords * i + 0 ≡ keyWords * i = omega arith in e)
 
-  second-at : getD (part 2 i keys) 1 0 ≡ getD keys (2 * i + 1) 0
-  second-at = part-at 2 i keys 1 (omega arith)
+  second-at : getD (part keyWords i keys) 1 0 ≡ getD keys (keyWords * i + 1) 0
+  second-at = part-at keyWords i keys 1 (omega arith)
 
-  placed-at : (w h m : List ℕ) → placeOf (slices (part 2 i keys) w h m) ≡ placed (getD keys (2 * i) 0) (getD keys (2 * i + 1) 0) (recordOf w h m)
+  placed-at : (w h m : List ℕ) → placeOf (slices (part keyWords i keys) w h m) ≡ placed (getD keys (keyWords * i) 0) (getD keys (keyWords * i + 1) 0) (recordOf w h m)
   unfolding placed placeOf
   placed-at w h m = rw (first-at, second-at)
 
   -- a place that stores a key holds the record in its other parts under that key
   pub own-place : (k : Key) (w h m : List ℕ) → k .priority ≤ 7 → stores keys (firstWord k) (k .source) i ≡ true
-      → placeOf (slices (part 2 i keys) w h m) ≡ held k (recordOf w h m)
+      → placeOf (slices (part keyWords i keys) w h m) ≡ held k (recordOf w h m)
   unfolding placed
   own-place k w h m fits e =
-      let words = both (eqb (getD keys (2 * i) 0) (firstWord k)) (eqb (getD keys (2 * i + 1) 0) (k .source)) e in
+      let words = both (eqb (getD keys (keyWords * i) 0) (firstWord k)) (eqb (getD keys (keyWords * i + 1) 0) (k .source)) e in
       placed-at w h m
-      ∙ rw (eqb-true (getD keys (2 * i) 0) (firstWord k) (words .0), eqb-true (getD keys (2 * i + 1) 0) (k .source) (words .1), ne-eqb (firstWord k) 0 (λ q. omega arith))
+      ∙ rw (eqb-true (getD keys (keyWords * i) 0) (firstWord k) (words .0), eqb-true (getD keys (keyWords * i + 1) 0) (k .source) (words .1), ne-eqb (firstWord k) 0 (λ q. omega arith))
       (ap (λ (j : Key). held j (recordOf w h m)) (stored-back k fits))
 
 module _ (s : Slices) (i : ℕ) where
   pub stores-is : (k : Key) → k .priority ≤ 7 → stores (s .keys) (firstWord k) (k .source) i ≡ isOf k (placeAt s i)
   stores-is k h =
       sym
-      (ap (isOf k) (placed-at (s .keys) i (part 35 i (s .words)) (part 32 i (s .handles)) (part 32 i (s .marks)))
-      ∙ of-words k (getD (s .keys) (2 * i) 0) (getD (s .keys) (2 * i + 1) 0) _ h)
+      (ap (isOf k) (placed-at (s .keys) i (part placeWords i (s .words)) (part slots i (s .handles)) (part slots i (s .marks)))
+      ∙ of-words k (getD (s .keys) (keyWords * i) 0) (getD (s .keys) (keyWords * i + 1) 0) _ h)
 
   pub storesNone-is : storesNone (s .keys) i ≡ isFree (placeAt s i)
   storesNone-is =
       sym
-      (ap isFree (placed-at (s .keys) i (part 35 i (s .words)) (part 32 i (s .handles)) (part 32 i (s .marks)))
-      ∙ free-words (getD (s .keys) (2 * i) 0) (getD (s .keys) (2 * i + 1) 0) _)
+      (ap isFree (placed-at (s .keys) i (part placeWords i (s .words)) (part slots i (s .handles)) (part slots i (s .marks)))
+      ∙ free-words (getD (s .keys) (keyWords * i) 0) (getD (s .keys) (keyWords * i + 1) 0) _)
 
 -- what the two walks over the keys find
 pub place-is : (s : Slices) (k : Key) → k .priority ≤ 7 → placeFor (s .keys) k ≡ firstPlace (λ i. isOf k (placeAt s i))

@@ -10,7 +10,7 @@ use lib.Dec.{leb, eqb}
 use Rattle.wire.proofs.Joined.{and-left, and-right}
 use Rattle.larq.specs.Channel.{window}
 use Rattle.larq.specs.Table.{Lent, lentEnough}
-use Rattle.table.specs.Table.{whole}
+use Rattle.table.specs.Table.{whole, tableKeys, tableWords, tableSlots}
 use Rattle.table.specs.Way.{tableLent, earlyNumber}
 use Rattle.table.specs.declared.lookup.Found.{Found}
 use Rattle.table.specs.declared.way.Way.{Way}
@@ -53,41 +53,41 @@ judged-passed l s p e =
 
 -- the lengths of a whole table's slices
 pub record Whole (k w h m : ℕ) : Type 0 where
-  pub keys : k ≡ 128
-  pub words : w ≡ 2240
-  pub handles : h ≡ 2048
-  pub marks : m ≡ 2048
+  pub keys : k ≡ tableKeys
+  pub words : w ≡ tableWords
+  pub handles : h ≡ tableSlots
+  pub marks : m ≡ tableSlots
 
 pub whole-sizes : (k w h m : ℕ) → whole k w h m ≡ true → Whole k w h m
 whole-sizes k w h m e =
-    let one = both (eqb k 128) (eqb w 2240 && (eqb h 2048 && eqb m 2048)) e in
-    let two = both (eqb w 2240) (eqb h 2048 && eqb m 2048) (one .1) in
-    let three = both (eqb h 2048) (eqb m 2048) (two .1) in
+    let one = both (eqb k tableKeys) (eqb w tableWords && (eqb h tableSlots && eqb m tableSlots)) e in
+    let two = both (eqb w tableWords) (eqb h tableSlots && eqb m tableSlots) (one .1) in
+    let three = both (eqb h tableSlots) (eqb m tableSlots) (two .1) in
     record {
-      keys = eqb-true k 128 (one .0);
-      words = eqb-true w 2240 (two .0);
-      handles = eqb-true h 2048 (three .0);
-      marks = eqb-true m 2048 (three .1);
+      keys = eqb-true k tableKeys (one .0);
+      words = eqb-true w tableWords (two .0);
+      handles = eqb-true h tableSlots (three .0);
+      marks = eqb-true m tableSlots (three .1);
     }
 
 -- the room of the answer buffers
 pub record Room (u r n : ℕ) : Type 0 where
-  pub up : 32 ≤ u
-  pub returned : 32 ≤ r
-  pub nack : 32 ≤ n
+  pub up : window ≤ u
+  pub returned : window ≤ r
+  pub nack : window ≤ n
 
 pub lent-room : (l : Lent) → lentEnough window l ≡ true → Room (l .up) (l .returned) (l .nack)
 lent-room l e =
-    let rooms = both (leb 32 (l .up) && (leb 32 (l .returned) && leb 32 (l .nack))) (l .whole) e .0 in
-    let one = both (leb 32 (l .up)) (leb 32 (l .returned) && leb 32 (l .nack)) rooms in
-    let two = both (leb 32 (l .returned)) (leb 32 (l .nack)) (one .1) in
-    record { up = leb-true 32 (l .up) (one .0); returned = leb-true 32 (l .returned) (two .0); nack = leb-true 32 (l .nack) (two .1) }
+    let rooms = both (leb window (l .up) && (leb window (l .returned) && leb window (l .nack))) (l .whole) e .0 in
+    let one = both (leb window (l .up)) (leb window (l .returned) && leb window (l .nack)) rooms in
+    let two = both (leb window (l .returned)) (leb window (l .nack)) (one .1) in
+    record { up = leb-true window (l .up) (one .0); returned = leb-true window (l .returned) (two .0); nack = leb-true window (l .nack) (two .1) }
 
 pub lent-whole : (l : Lent) → lentEnough window l ≡ true → l .whole ≡ true
-lent-whole l e = both (leb 32 (l .up) && (leb 32 (l .returned) && leb 32 (l .nack))) (l .whole) e .1
+lent-whole l e = both (leb window (l .up) && (leb window (l .returned) && leb window (l .nack))) (l .whole) e .1
 
--- the keys of what is lent enough are those of 64 places
-pub keys-sized : (k w h m u r n s p : ℕ) → earlyNumber (tableLent k w h m u r n) s p ≡ 0 → k ≡ 128
+-- the keys of what is lent enough are those of a whole table
+pub keys-sized : (k w h m u r n s p : ℕ) → earlyNumber (tableLent k w h m u r n) s p ≡ 0 → k ≡ tableKeys
 keys-sized k w h m u r n s p e =
     whole-sizes k w h m (lent-whole (tableLent k w h m u r n) (judged-passed (tableLent k w h m u r n) s p e .lent)) .keys
 

@@ -5,6 +5,7 @@ use mathlib.Core.Bool.{Bool, cond, _&&_}
 use mathlib.Core.List.{List}
 use lib.ListN.{getD}
 use lib.Dec.{eqb}
+use Rattle.table.specs.Key.{keyWords}
 use Rattle.table.specs.declared.lookup.Found.{Found}
 use Rattle.table.specs.declared.lookup.Found.the-variants.{At, Nothing}
 
@@ -21,12 +22,12 @@ firstPlace test = firstFrom test 0 places
 
 -- the key of place i has this word: its first where w is 0, its source where w is 1
 abbrev pub hasWord : List ℕ → ℕ → ℕ → ℕ → Bool
-hasWord keys w word i = eqb (getD keys (2 * i + w) 0) word
+hasWord keys w word i = eqb (getD keys (keyWords * i + w) 0) word
 
 -- place i stores a key of these two words
 abbrev pub stores : List ℕ → ℕ → ℕ → ℕ → Bool
-stores keys first second i = eqb (getD keys (2 * i) 0) first && eqb (getD keys (2 * i + 1) 0) second
+stores keys first second i = eqb (getD keys (keyWords * i) 0) first && eqb (getD keys (keyWords * i + 1) 0) second
 
 -- place i stores no key
 abbrev pub storesNone : List ℕ → ℕ → Bool
-storesNone keys i = eqb (getD keys (2 * i) 0) 0
+storesNone keys i = eqb (getD keys (keyWords * i) 0) 0

@@ -5,6 +5,10 @@ use mathlib.Core.List.{List}
 use lib.ListN.{getD}
 use Rattle.larq.specs.Table.{Key}
 
+-- how many words a stored key has
+abbrev pub keyWords : ℕ
+keyWords = 2
+
 -- six octets read as one big-endian number
 abbrev pub addressOf : List ℕ → ℕ
 addressOf o = ((((getD o 0 0 * 256 + getD o 1 0) * 256 + getD o 2 0) * 256 + getD o 3 0) * 256 + getD o 4 0) * 256 + getD o 5 0

@@ -1,4 +1,4 @@
--- What the four slices of a lent table mean: 64 places, each with 2 words of key, 35 words, 32 handles and 32 marks.
+-- What the four slices of a lent table mean: so many places, each with its key and the parts that crate slots tells of.
 -- Document 01, 'The channel table'; docs/LAYOUT.md has the layout.
 use Prim.Native.Nat.{ℕ, zero, suc, _*_}
 use mathlib.Core.Bool.{Bool, cond, _&&_}
@@ -6,9 +6,20 @@ use mathlib.Core.List.{List, [], _∷_}
 use lib.ListN.{getD, take, drop, replicate}
 use lib.Dec.{eqb}
 use Rattle.larq.specs.Table.{Place, free, held, Table}
+use Rattle.slots.specs.Slots.{slots, placeWords}
 use Rattle.record.specs.Place.{recordOf}
-use Rattle.table.specs.Key.{storedKey}
+use Rattle.table.specs.Key.{keyWords, storedKey}
 use Rattle.table.specs.First.{places}
+
+-- how long the slices are: the keys, the words, and the handles as the marks
+abbrev pub tableKeys : ℕ
+tableKeys = keyWords * places
+
+abbrev pub tableWords : ℕ
+tableWords = placeWords * places
+
+abbrev pub tableSlots : ℕ
+tableSlots = slots * places
 
 pub record Slices : Type 0 where
   pub keys : List ℕ
@@ -21,7 +32,7 @@ slices keys words handles marks = record { keys = keys; words = words; handles =
 
 -- the slices are those of a table of 64 places: no shorter and no longer
 abbrev pub whole : ℕ → ℕ → ℕ → ℕ → Bool
-whole keys words handles marks = eqb keys 128 && (eqb words 2240 && (eqb handles 2048 && eqb marks 2048))
+whole keys words handles marks = eqb keys tableKeys && (eqb words tableWords && (eqb handles tableSlots && eqb marks tableSlots))
 
 -- what of a slice belongs to place i, where each place has n elements
 unfoldable pub part : ℕ → ℕ → List ℕ → List ℕ
@@ -29,11 +40,11 @@ part n i l = take n (drop (n * i) l)
 
 -- the very words of place i
 abbrev pub atPlace : ℕ → Slices → Slices
-atPlace i s = slices (part 2 i (s .keys)) (part 35 i (s .words)) (part 32 i (s .handles)) (part 32 i (s .marks))
+atPlace i s = slices (part keyWords i (s .keys)) (part placeWords i (s .words)) (part slots i (s .handles)) (part slots i (s .marks))
 
 -- the words of a place as in an empty table
 abbrev pub zeros : Slices
-zeros = slices (replicate 2 0) (replicate 35 0) (replicate 32 0) (replicate 32 0)
+zeros = slices (replicate keyWords 0) (replicate placeWords 0) (replicate slots 0) (replicate slots 0)
 
 -- what the words of a place mean: free where the first word of the key is 0, else that key and its record
 unfoldable pub placeOf : Slices → Place ℕ

@@ -6,18 +6,22 @@ mod way;
 pub use key::address;
 pub use key::first_word;
 pub use lookup::Found;
-pub use record::SLOTS;
-pub use record::WORDS;
+pub use slots::SLOTS;
+pub use slots::WORDS;
 pub use way::DataWay;
 pub use way::Way;
 pub use way::data_way_of;
 pub use way::is_whole;
 pub use way::way_of;
 
-// The layout of the lent table: its places, and how many words of the keys belong to one of them. What else belongs to a place is record's.
+// The layout of the lent table: its places, and how many words of the keys belong to one of them. What else belongs to a place is told by slots.
 pub const PLACES: usize = 64;
 
 pub const KEY_WORDS: usize = 2;
 
-// The words of all keys.
-const KEYS_IN_ALL: usize = KEY_WORDS * PLACES;
+// How long its four slices are: the keys, the words, and the handles as the marks.
+pub const KEYS_IN_ALL: usize = KEY_WORDS * PLACES;
+
+pub const WORDS_IN_ALL: usize = WORDS * PLACES;
+
+pub const SLOTS_IN_ALL: usize = SLOTS * PLACES;

@@ -2,7 +2,8 @@
 ghost use mathlib.Core.Path.{_≡_};
 ghost use Prim.Native.Nat.{_-_, _<_, _≤_};
 ghost use lib.ListN.{length};
-ghost use Rattle.table.specs.First.{firstFrom, firstPlace, hasWord, stores, storesNone};
+ghost use Rattle.table.specs.Table.{tableKeys};
+ghost use Rattle.table.specs.First.{firstFrom, firstPlace, hasWord, stores, storesNone, places};
 use crate::KEY_WORDS;
 use crate::KEYS_IN_ALL;
 use crate::PLACES;
@@ -15,7 +16,7 @@ pub enum Found {
 
 // Whether place i stores the key of these two words.
 fn is_stored(keys: &[u64], i: usize, first: u64, second: u64) -> bool
-    requires { ⌜ (length (now keys) ≡ 128) × (i < 64) ⌝ }
+    requires { ⌜ (length (now keys) ≡ tableKeys) × (i < places) ⌝ }
     ensures { λ r. ⌜ r ≡ stores (now (keys .entry)) first second i ⌝ }
 {
     (keys[KEY_WORDS * i] == first) & (keys[KEY_WORDS * i + 1] == second)
@@ -24,7 +25,7 @@ fn is_stored(keys: &[u64], i: usize, first: u64, second: u64) -> bool
 // The first place whose key has this word: the first word where `which` is 0, the source where it is 1. A lookup at a late place takes its time
 // here: one test a place, and one counter, of the words before the place.
 fn first_with(keys: &[u64], which: usize, word: u64) -> Found
-    requires { ⌜ (length (now keys) ≡ 128) × (which < 2) ⌝ }
+    requires { ⌜ (length (now keys) ≡ tableKeys) × (which < 2) ⌝ }
     ensures { λ r. ⌜ r ≡ firstPlace (hasWord (now (keys .entry)) which word) ⌝ }
 {
     let mut j = 0;
@@ -42,8 +43,8 @@ fn first_with(keys: &[u64], which: usize, word: u64) -> Found
 
 // The first place from `from` on that stores the key of these two words.
 fn find_from(keys: &[u64], from: usize, first: u64, second: u64) -> Found
-    requires { ⌜ (length (now keys) ≡ 128) × (from ≤ 64) ⌝ }
-    ensures { λ r. ⌜ r ≡ firstFrom (stores (now (keys .entry)) first second) from (64 - from) ⌝ }
+    requires { ⌜ (length (now keys) ≡ tableKeys) × (from ≤ places) ⌝ }
+    ensures { λ r. ⌜ r ≡ firstFrom (stores (now (keys .entry)) first second) from (places - from) ⌝ }
 {
     let mut i = from;
     let place = loop {
@@ -61,7 +62,7 @@ fn find_from(keys: &[u64], from: usize, first: u64, second: u64) -> Found
 // The first place that stores the key of these two words. It is mostly the first of that source; where that is another channel of the source,
 // whole keys are compared from there on.
 pub(crate) fn find(keys: &[u64], first: u64, second: u64) -> Found
-    requires { ⌜ length (now keys) ≡ 128 ⌝ }
+    requires { ⌜ length (now keys) ≡ tableKeys ⌝ }
     ensures { λ r. ⌜ r ≡ firstPlace (stores (now (keys .entry)) first second) ⌝ }
 {
     let Found::At(i) = first_with(keys, 1, second) else {
@@ -75,7 +76,7 @@ pub(crate) fn find(keys: &[u64], first: u64, second: u64) -> Found
 
 // The first free place: the first word of its key is 0.
 pub(crate) fn find_free(keys: &[u64]) -> Found
-    requires { ⌜ length (now keys) ≡ 128 ⌝ }
+    requires { ⌜ length (now keys) ≡ tableKeys ⌝ }
     ensures { λ r. ⌜ r ≡ firstPlace (storesNone (now (keys .entry))) ⌝ }
 {
     first_with(keys, 0, 0)

@@ -3,23 +3,18 @@ ghost use mathlib.Core.Path.{_≡_};
 ghost use lib.ListN.{length};
 ghost use lib.Dec.{leb};
 ghost use mathlib.Core.Bool.{_&&_};
+ghost use Rattle.larq.specs.Channel.{window};
 ghost use Rattle.table.specs.First.{firstPlace, stores, storesNone};
 ghost use Rattle.table.specs.Table.{whole};
 ghost use Rattle.table.specs.Way.{tableLent, earlyNumber, waySays, wayFor, dataWaySays, dataWayFor};
 use crate::KEYS_IN_ALL;
-use crate::PLACES;
-use crate::SLOTS;
-use crate::WORDS;
+use crate::SLOTS_IN_ALL;
+use crate::WORDS_IN_ALL;
 use crate::lookup::Found;
 use crate::lookup::find;
 use crate::lookup::find_free;
-use larq::WINDOW;
+use larq::ROOM;
 use ring::Seq;
-
-// The lengths of a table's other slices.
-const WORDS_IN_ALL: usize = WORDS * PLACES;
-
-const SLOTS_IN_ALL: usize = SLOTS * PLACES;
 
 // To the place of its channel, or nowhere.
 pub enum Way {
@@ -44,10 +39,9 @@ pub fn is_whole(keys: usize, words: usize, handles: usize, marks: usize) -> bool
 
 // Whether the three answer buffers have the room that any answer may need.
 fn has_room(up: usize, returned: usize, nack: usize) -> bool
-    ensures { λ r. ⌜ r ≡ (leb 32 up && (leb 32 returned && leb 32 nack)) ⌝ }
+    ensures { λ r. ⌜ r ≡ (leb window up && (leb window returned && leb window nack)) ⌝ }
 {
-    let room = WINDOW as usize;
-    (room <= up) & ((room <= returned) & (room <= nack))
+    (ROOM <= up) & ((ROOM <= returned) & (ROOM <= nack))
 }
 
 // The numbers 1 to 3, or 0 where none of them applies.

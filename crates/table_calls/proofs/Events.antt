@@ -16,12 +16,13 @@ use Rattle.larq.specs.Table.{Key, Lent, Event, numberInRing, isData, one}
 use Rattle.larq.specs.Demands.{isClose}
 use Rattle.larq.proofs.Cases.{one-case}
 use Rattle.ring.specs.Ring.{steps, Side, Ahead, Behind, Far}
+use Rattle.slots.specs.Slots.{slots, placeWords}
 use Rattle.place.specs.Call.{Parts, parts, Buffers, buffers, eventAt, ruleAt, Called, Says}
 use Rattle.record.specs.Place.{recordOf}
 use Rattle.place.specs.declared.Answer.{Answer}
 use Rattle.table.specs.First.{places, firstPlace, stores, storesNone}
 use Rattle.table.specs.Key.{keyOf, firstWord}
-use Rattle.table.specs.Table.{Slices, slices, placeAt}
+use Rattle.table.specs.Table.{Slices, slices, placeAt, tableKeys, tableWords, tableSlots}
 use Rattle.table.specs.Way.{tableLent, earlyNumber, placeFor, waySays, wayFor, dataWaySays, dataWayFor}
 use Rattle.table_calls.specs.Writes.{keyed, Opens}
 use Rattle.table.specs.Addressed.{isOf}
@@ -123,24 +124,24 @@ module _ (c : Told) where
 -- what a call that goes to place i knows: the place is one of the 64, and the slices are as long as they should be
 pub record Goes (c : Told) (i : ℕ) : Type 0 where
   pub here : i < places
-  pub keys-sized : length (c .keys) ≡ 128
-  pub words-sized : length (c .words) ≡ 2240
-  pub handles-sized : length (c .handles) ≡ 2048
-  pub marks-sized : length (c .marks) ≡ 2048
+  pub keys-sized : length (c .keys) ≡ tableKeys
+  pub words-sized : length (c .words) ≡ tableWords
+  pub handles-sized : length (c .handles) ≡ tableSlots
+  pub marks-sized : length (c .marks) ≡ tableSlots
 
 -- the parts of its place, as they are lent
 abbrev pub lentParts : Told → ℕ → Parts
-lentParts c i = parts (lent 35 i (c .words)) (lent 32 i (c .handles)) (lent 32 i (c .marks))
+lentParts c i = parts (lent placeWords i (c .words)) (lent slots i (c .handles)) (lent slots i (c .marks))
 
 -- they came back with as many elements
 pub record Back (c : Told) (i : ℕ) (p : Parts) : Type 0 where
-  pub words : length (p .words) ≡ length (lent 35 i (c .words))
-  pub handles : length (p .handles) ≡ length (lent 32 i (c .handles))
-  pub marks : length (p .marks) ≡ length (lent 32 i (c .marks))
+  pub words : length (p .words) ≡ length (lent placeWords i (c .words))
+  pub handles : length (p .handles) ≡ length (lent slots i (c .handles))
+  pub marks : length (p .marks) ≡ length (lent slots i (c .marks))
 
 -- the slices when the parts are back
 abbrev pub after : Told → ℕ → List ℕ → Parts → Slices
-after c i keys p = slices keys (put 35 i (c .words) (p .words)) (put 32 i (c .handles) (p .handles)) (put 32 i (c .marks) (p .marks))
+after c i keys p = slices keys (put placeWords i (c .words) (p .words)) (put slots i (c .handles) (p .handles)) (put slots i (c .marks) (p .marks))
 
 module _ (c : Told) (act : Act ℕ) (number : ℕ) (numbered : numberInRing act ≡ leb number 4095) where
   abbrev e : Event ℕ
@@ -212,7 +213,7 @@ pub closed-did : (c : Told) (w : Way) (i : ℕ) (keys : List ℕ) (p : Parts) (h
     → Call (key c) (c .time) close (before c) (after c i keys p) (had c) has given
 closed-did c w i keys p has given by to back call freed-keys =
     let there : Called close (c .time) (partsAt i (before c)) p (had c) has given =
-    rw (lent-part 35 i (c .words), lent-part 32 i (c .handles), lent-part 32 i (c .marks)) at call in
+    rw (lent-part placeWords i (c .words), lent-part slots i (c .handles), lent-part slots i (c .marks)) at call in
     went-did c close 0 refl w i keys p has given by to back call
     (rw (freed-keys, there .answer .number) (keys-freed i (c .keys) (partsAt i (before c)) (had c) (c .time)))
 
@@ -255,7 +256,7 @@ module _ (c : Told) (number handle : ℕ) where
     right = judged-passed lent-now number (c .priority) (absent .0)
 
     -- what `open_at` asks
-    pub ready : (length (c .keys) ≡ 128) × (length (c .words) ≡ 2240) × (32 ≤ length (c .up)) × (i < places)
+    pub ready : (length (c .keys) ≡ tableKeys) × (length (c .words) ≡ tableWords) × (window ≤ length (c .up)) × (i < places)
     ready =
         let sized = whole-sizes (length (c .keys)) (length (c .words)) (length (c .handles)) (length (c .marks)) (lent-whole lent-now (right .lent)) in
         (sized .keys, sized .words, lent-room lent-now (right .lent) .up, omega (arith, finds (storesNone (c .keys)) places 0 i (free-way .1) .high))
@@ -265,6 +266,6 @@ module _ (c : Told) (number handle : ℕ) where
         → Call (key c) (c .time) (frame number handle) (before c) (slices keys words (c .handles) (c .marks)) (had c)
         (buffers up (c .returned) (c .nack)) given
     opening-did first second keys words up given one two opens =
-        rw (opens .key, opens .head, opens .frame, one, two)
+        rw (opens .key, one, two)
         (opened-did (c .keys) (c .words) (c .handles) (c .marks) (c .up) (c .returned) (c .nack) (key c) (c .time) number handle right (absent .1) i
-        (free-way .1) given (opens .answer))
+        (free-way .1) (rw (opens .key, one, two) at opens))

@@ -26,7 +26,7 @@ handed-in =
     (replicate 12 0 ++ (2 ∷ replicate 2035 0)) (replicate 12 0 ++ (1 ∷ replicate 2035 0))
 
 abbrev room-for-all : Buffers
-room-for-all = buffers (replicate 32 0) (replicate 32 0) (replicate 32 0)
+room-for-all = buffers (replicate window 0) (replicate window 0) (replicate window 0)
 
 abbrev behind-11 : Channel ℕ
 behind-11 = record { current = 12; oldest = 11; latest = 102; cells = missing 100 ∷ (waits 2 ∷ []) }

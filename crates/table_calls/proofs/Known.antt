@@ -12,11 +12,11 @@ use Rattle.larq.specs.Channel.{window}
 use Rattle.larq.specs.Answer.{Change, same, holds, freed, Outcome}
 use Rattle.larq.specs.Events.{Act}
 use Rattle.larq.specs.Table.{Key, free, held, Event, numberInRing, outcome, step}
-use Rattle.record.specs.Place.{placeSized}
+use Rattle.slots.specs.Slots.{slots, placeWords, placeSized}
 use Rattle.place.specs.Call.{Parts, parts, Buffers, Became, ruleAt, Called}
 use Rattle.place.specs.declared.Answer.{Answer}
 use Rattle.table.specs.First.{places, firstPlace, stores}
-use Rattle.table.specs.Key.{firstWord}
+use Rattle.table.specs.Key.{firstWord, keyWords}
 use Rattle.table.specs.Table.{Slices, slices, part, atPlace, placeOf, placeAt, tableOf, zeros}
 use Rattle.table.specs.Way.{placeFor}
 use Rattle.table.specs.Addressed.{isOf, addressed}
@@ -59,38 +59,38 @@ module _ (keys W H M : List ℕ) (b : Buffers) (k : Key) (time : ℕ) (act : Act
   here : addressed k before ≡ At i
   here = rw known
 
-  words-fit : 35 * i + 35 ≤ length W
+  words-fit : placeWords * i + placeWords ≤ length W
   words-fit = omega (arith, sized .words, within)
 
-  handles-fit : 32 * i + 32 ≤ length H
+  handles-fit : slots * i + slots ≤ length H
   handles-fit = omega (arith, sized .handles, within)
 
-  marks-fit : 32 * i + 32 ≤ length M
+  marks-fit : slots * i + slots ≤ length M
   marks-fit = omega (arith, sized .marks, within)
 
   own : placeAt before i ≡ held k (recordAt i before)
-  own = own-place keys i k (part 35 i W) (part 32 i H) (part 32 i M) fits (stored .passes)
+  own = own-place keys i k (part placeWords i W) (part slots i H) (part slots i M) fits (stored .passes)
 
-  lengths : placeSized (length (part 35 i W)) (length (part 32 i H)) (length (part 32 i M)) ≡ true
-  lengths = rw (length-part 35 i W words-fit, length-part 32 i H handles-fit, length-part 32 i M marks-fit)
+  lengths : placeSized (length (part placeWords i W)) (length (part slots i H)) (length (part slots i M)) ≡ true
+  lengths = rw (length-part placeWords i W words-fit, length-part slots i H handles-fit, length-part slots i M marks-fit)
 
   is-rule : outcome window (tableOf before) e ≡ rule
   is-rule = known-rule before b k time act number numbered passed i known own lengths
 
-  module _ (keys′ w h m : List ℕ) (b′ : Buffers) (given : Answer) (lw : length w ≡ 35) (lh : length h ≡ 32) (lm : length m ≡ 32) where
+  module _ (keys′ w h m : List ℕ) (b′ : Buffers) (given : Answer) (lw : length w ≡ placeWords) (lh : length h ≡ slots) (lm : length m ≡ slots) where
     abbrev after : Slices
-    after = slices keys′ (put 35 i W w) (put 32 i H h) (put 32 i M m)
+    after = slices keys′ (put placeWords i W w) (put slots i H h) (put slots i M m)
 
-    at-place : atPlace i after ≡ slices (part 2 i keys′) w h m
-    at-place = rw (part-put 35 i W words-fit w lw, part-put 32 i H handles-fit h lh, part-put 32 i M marks-fit m lm)
+    at-place : atPlace i after ≡ slices (part keyWords i keys′) w h m
+    at-place = rw (part-put placeWords i W words-fit w lw, part-put slots i H handles-fit h lh, part-put slots i M marks-fit m lm)
 
     elsewhere : KeysAfter (rule .change) i keys keys′ → (j : ℕ) → (j ≡ i → ⊥) → atPlace j after ≡ atPlace j before
     elsewhere after-keys j ne =
         rw (
           keys-else (rule .change) i j keys keys′ (sized .keys) within after-keys ne,
-          part-put-else 35 i W words-fit j w lw ne,
-          part-put-else 32 i H handles-fit j h lh ne,
-          part-put-else 32 i M marks-fit j m lm ne,
+          part-put-else placeWords i W words-fit j w lw ne,
+          part-put-else slots i H handles-fit j h lh ne,
+          part-put-else slots i M marks-fit j m lm ne,
         )
 
     module _ (after-keys : KeysAfter (rule .change) i keys keys′) where
@@ -106,11 +106,11 @@ module _ (keys W H M : List ℕ) (b : Buffers) (k : Key) (time : ℕ) (act : Act
       unfolding step
       done same f ks p =
           let unchanged : after ≡ before =
-          rw (ks, ap (λ (q : Parts). q .words) p, ap (λ (q : Parts). q .handles) p, ap (λ (q : Parts). q .marks) p, put-part 35 i W, put-part 32 i H, put-part 32 i M) in
+          rw (ks, ap (λ (q : Parts). q .words) p, ap (λ (q : Parts). q .handles) p, ap (λ (q : Parts). q .marks) p, put-part placeWords i W, put-part slots i H, put-part slots i M) in
           record { stepped = ap tableOf unchanged ∙ rw (is-rule, f); changed = unchanged }
       done (holds c) f ks p =
           let placed : placeAt after i ≡ held k c =
-          ap placeOf at-place ∙ ap (λ (q : List ℕ). placeOf (slices (part 2 i q) w h m)) ks ∙ own-place keys i k w h m fits (stored .passes)
+          ap placeOf at-place ∙ ap (λ (q : List ℕ). placeOf (slices (part keyWords i q) w h m)) ks ∙ own-place keys i k w h m fits (stored .passes)
           ∙ ap (held k) p in
           record {
             stepped = table-but before after i (held k c) placed others ∙ sym (holds-step before b k time act number numbered passed i known own lengths c f);
@@ -129,14 +129,14 @@ module _ (keys W H M : List ℕ) (b : Buffers) (k : Key) (time : ℕ) (act : Act
 
   -- the call on one place, with the parts as they are lent and come back
   pub known-did : (keys′ w h m : List ℕ) (b′ : Buffers) (given : Answer)
-      → length w ≡ length (lent 35 i W) → length h ≡ length (lent 32 i H) → length m ≡ length (lent 32 i M)
-      → Called act time (parts (lent 35 i W) (lent 32 i H) (lent 32 i M)) (parts w h m) b b′ given → KeysAfter (rule .change) i keys keys′
-      → Did e before (slices keys′ (put 35 i W w) (put 32 i H h) (put 32 i M m)) b b′ given
+      → length w ≡ length (lent placeWords i W) → length h ≡ length (lent slots i H) → length m ≡ length (lent slots i M)
+      → Called act time (parts (lent placeWords i W) (lent slots i H) (lent slots i M)) (parts w h m) b b′ given → KeysAfter (rule .change) i keys keys′
+      → Did e before (slices keys′ (put placeWords i W w) (put slots i H h) (put slots i M m)) b b′ given
   known-did keys′ w h m b′ given kw kh km call after-keys =
-      let c : Called act time (partsAt i before) (parts w h m) b b′ given = rw (lent-part 35 i W, lent-part 32 i H, lent-part 32 i M) at call in
-      let lw = kw ∙ ap length (lent-part 35 i W) ∙ length-part 35 i W words-fit in
-      let lh = kh ∙ ap length (lent-part 32 i H) ∙ length-part 32 i H handles-fit in
-      let lm = km ∙ ap length (lent-part 32 i M) ∙ length-part 32 i M marks-fit in
+      let c : Called act time (partsAt i before) (parts w h m) b b′ given = rw (lent-part placeWords i W, lent-part slots i H, lent-part slots i M) at call in
+      let lw = kw ∙ ap length (lent-part placeWords i W) ∙ length-part placeWords i W words-fit in
+      let lh = kh ∙ ap length (lent-part slots i H) ∙ length-part slots i H handles-fit in
+      let lm = km ∙ ap length (lent-part slots i M) ∙ length-part slots i M marks-fit in
       let d = done keys′ w h m b′ given lw lh lm after-keys (rule .change) refl after-keys (c .became) in
       record {
         answer = rw is-rule (c .answer);

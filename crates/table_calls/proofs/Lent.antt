@@ -23,6 +23,7 @@ use Rattle.larq.proofs.Sound.{Good, Joined, sound-is}
 use Rattle.larq.proofs.Moved.{moves, none-given-up}
 use Rattle.larq.proofs.AtOnce.{at-once}
 use Rattle.larq.proofs.Bounds.{bounded}
+use Rattle.slots.specs.Slots.{currentIn, oldestIn}
 use Rattle.record.specs.Place.{cellAt, spanOf, recordWith, recordOf}
 use Rattle.record.proofs.Windows.{length-cells-from}
 use Rattle.place.specs.Call.{Buffers}
@@ -36,14 +37,14 @@ module _ (words handles marks : List ℕ) where
   -- 'for each number from M to C whether it waits .. or is missing': it has as many cells as its span says.
   pub lent-span : length (recordOf words handles marks .cells) ≡ span (recordOf words handles marks)
   unfolding recordWith
-  lent-span = length-cells-from (cellAt words handles marks) (getD words 1 0) (spanOf (getD words 0 0) (getD words 1 0)) ∙ omega arith
+  lent-span = length-cells-from (cellAt words handles marks) (oldestIn words) (spanOf (currentIn words) (oldestIn words)) ∙ omega arith
 
   -- and they end at C.
   pub lent-joined : Joined (recordOf words handles marks)
   unfolding recordWith
   lent-joined =
-      ap (forward (getD words 1 0)) (length-cells-from (cellAt words handles marks) (getD words 1 0) (spanOf (getD words 0 0) (getD words 1 0)))
-      ∙ forward-steps (getD words 1 0) (getD words 0 0 + 1)
+      ap (forward (oldestIn words)) (length-cells-from (cellAt words handles marks) (oldestIn words) (spanOf (currentIn words) (oldestIn words)))
+      ∙ forward-steps (oldestIn words) (currentIn words + 1)
 
   -- 'A record is broken if ..': one that is not is good.
   pub lent-good : sound window (recordOf words handles marks) ≡ true → Good window (recordOf words handles marks)
@@ -174,7 +175,7 @@ lent-bounded s e = go (channels (e .key) (tableOf s)) refl
 
 -- the counts that a call gives the host keep the same bounds.
 pub counts-bounded : (e : Event ℕ) (before after : Slices) (had has : Buffers) (given : Answer) → Did e before after had has given
-    → (given .up ≤ 32) × (given .returned ≤ 31) × (given .nack ≤ 32)
+    → (given .up ≤ window) × (given .returned ≤ 31) × (given .nack ≤ window)
 counts-bounded e before after had has given d =
     let most = lent-bounded before e in (
       omega (arith, d .answer .up .count, most .up),

@@ -11,11 +11,12 @@ use lib.Dec.{eqb}
 use Rattle.larq.specs.Channel.{window}
 use Rattle.larq.specs.Answer.{Change, same, holds, freed, refused}
 use Rattle.larq.specs.Table.{Place, Event, outcome, step}
+use Rattle.table.specs.Key.{keyWords}
 use Rattle.record.specs.Buffers.{Wrote}
 use Rattle.place.specs.Call.{Buffers, Says}
 use Rattle.place.specs.declared.Answer.{Answer}
 use Rattle.table.specs.First.{places}
-use Rattle.table.specs.Table.{Slices, part, atPlace, placeOf, placeAt, placesFrom, tableOf}
+use Rattle.table.specs.Table.{Slices, part, atPlace, placeOf, placeAt, placesFrom, tableOf, tableKeys}
 use Rattle.table_calls.specs.Writes.{keyed}
 use Rattle.table_calls.specs.Event.{Did}
 use Rattle.table.proofs.Places.{but, same-places}
@@ -58,8 +59,8 @@ KeysAfter same i before after = after ≡ before
 KeysAfter (holds c) i before after = after ≡ before
 KeysAfter freed i before after = after ≡ keyed before i 0 0
 
-pub keys-else : (change : Change ℕ) (i j : ℕ) (before after : List ℕ) → length before ≡ 128 → i < places → KeysAfter change i before after → (j ≡ i → ⊥)
-    → part 2 j after ≡ part 2 j before
-keys-else same i j before after l h e ne = ap (part 2 j) e
-keys-else (holds c) i j before after l h e ne = ap (part 2 j) e
-keys-else freed i j before after l h e ne = ap (part 2 j) e ∙ keyed-else before i 0 0 l h j ne
+pub keys-else : (change : Change ℕ) (i j : ℕ) (before after : List ℕ) → length before ≡ tableKeys → i < places → KeysAfter change i before after → (j ≡ i → ⊥)
+    → part keyWords j after ≡ part keyWords j before
+keys-else same i j before after l h e ne = ap (part keyWords j) e
+keys-else (holds c) i j before after l h e ne = ap (part keyWords j) e
+keys-else freed i j before after l h e ne = ap (part keyWords j) e ∙ keyed-else before i 0 0 l h j ne

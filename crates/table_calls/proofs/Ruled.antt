@@ -11,7 +11,8 @@ use Rattle.larq.specs.Channel.{Channel, window}
 use Rattle.larq.specs.Answer.{holds, freed, refused, accepted}
 use Rattle.larq.specs.Events.{Act, frame, opened}
 use Rattle.larq.specs.Table.{Key, free, held, Table, Event, channels, room, lentEnough, numberInRing, priorityFits, isData, refusals, done, one, outcome, step}
-use Rattle.record.specs.Place.{recordOf, placeSized}
+use Rattle.slots.specs.Slots.{slots, placeWords, placeSized}
+use Rattle.record.specs.Place.{recordOf}
 use Rattle.place.specs.Call.{Parts, parts, Buffers, eventAt, ruleAt}
 use Rattle.table.specs.First.{places, firstPlace}
 use Rattle.table.specs.Table.{Slices, part, placeAt, placesFrom, tableOf}
@@ -33,10 +34,10 @@ decided refuse false y z l good n e ne = rw e
 
 -- the parts of a place, as the call on one place has them
 abbrev pub partsAt : ℕ → Slices → Parts
-partsAt i s = parts (part 35 i (s .words)) (part 32 i (s .handles)) (part 32 i (s .marks))
+partsAt i s = parts (part placeWords i (s .words)) (part slots i (s .handles)) (part slots i (s .marks))
 
 abbrev pub recordAt : ℕ → Slices → Channel ℕ
-recordAt i s = recordOf (part 35 i (s .words)) (part 32 i (s .handles)) (part 32 i (s .marks))
+recordAt i s = recordOf (part placeWords i (s .words)) (part slots i (s .handles)) (part slots i (s .marks))
 
 module _ (s : Slices) (b : Buffers) (k : Key) (time : ℕ) (act : Act ℕ) (number : ℕ) (numbered : numberInRing act ≡ leb number 4095) where
   abbrev e : Event ℕ
@@ -81,12 +82,12 @@ module _ (s : Slices) (b : Buffers) (k : Key) (time : ℕ) (act : Act ℕ) (numb
 
     -- place i has the channel of the key
     module _ (i : ℕ) (known : firstPlace (λ i. isOf k (placeAt s i)) ≡ At i) (own : placeAt s i ≡ held k (recordAt i s))
-        (sized : placeSized (length (part 35 i (s .words))) (length (part 32 i (s .handles))) (length (part 32 i (s .marks))) ≡ true) where
+        (sized : placeSized (length (part placeWords i (s .words))) (length (part slots i (s .handles))) (length (part slots i (s .marks))) ≡ true) where
       begins : Begins (recordAt i s) (channels k t)
       begins = channels-found k (placeAt s) k (recordAt i s) places 0 i known own
 
       lent-there : lentEnough window (eventAt (partsAt i s) b time act .lent) ≡ true
-      lent-there = rw (sized, both (leb 32 (length (b .up)) && (leb 32 (length (b .returned)) && leb 32 (length (b .nack)))) (e .lent .whole) (passed .lent) .0)
+      lent-there = rw (sized, both (leb window (length (b .up)) && (leb window (length (b .returned)) && leb window (length (b .nack)))) (e .lent .whole) (passed .lent) .0)
 
       pub known-rule : outcome window t e ≡ ruleAt (partsAt i s) b time act
       unfolding outcome one

@@ -1,15 +1,15 @@
 -- The cells of a window told one after the other into two buffers: what the loop keeps. What is still to be told from here is what was to be told
 -- from the start. Assumes nothing.
-use Prim.Native.Nat.{ℕ, _+_, _-_, _%_, _≤_, _<_}
+use Prim.Native.Nat.{ℕ, _+_, _-_, _≤_, _<_}
 use mathlib.Core.Path.{_≡_, refl, ap, sym, _∙_}
 use mathlib.Core.Bool.{Bool, true, false, cond}
 use mathlib.Core.List.{List, [], map}
 use native.Mathlib.Omega.{arith}
-use lib.Dec.{eqb}
-use lib.ListN.{length, getD, set, length-set}
+use lib.ListN.{length, set, length-set}
 use lib.Seq.{sets}
 use Rattle.ring.specs.Ring.{next}
 use Rattle.larq.specs.Channel.{Cell, waits, missing}
+use Rattle.slots.specs.Slots.{slotOf, isMissing, timeAt, handleAt}
 use Rattle.record.specs.Place.{cellsFrom, cellAt}
 use Rattle.record.proofs.Laying.{sets-more}
 use Rattle.record.proofs.Windows.{cells-from-none, cells-from-suc}
@@ -25,15 +25,14 @@ pub tells-start : (say : Cell ℕ → ℕ) (cell : ℕ → Cell ℕ) (m n : ℕ)
 tells-start say cell m n before = record { count = omega arith; sized = refl; rest = refl }
 
 module _ {say : Cell ℕ → ℕ} {cell : ℕ → Cell ℕ} {m n : ℕ} {before now : List ℕ} {i left to : ℕ} (t : Tells say cell m n before now i left to) where
-  pub tells-more : (j v i′ : ℕ) → 0 < left → j ≡ i % 32 → v ≡ say (cell j) → i′ ≡ next i
-      → Tells say cell m n before (set now to v) i′ (left - 1) (to + 1)
-  tells-more j v i′ some at-slot told on =
+  pub tells-more : (v i′ : ℕ) → 0 < left → v ≡ say (cell (slotOf i)) → i′ ≡ next i → Tells say cell m n before (set now to v) i′ (left - 1) (to + 1)
+  tells-more v i′ some is on =
       record {
         count = omega (arith, t .count);
         sized = simp length-set (t .sized);
         rest =
             sets-more now to v (map say (cellsFrom cell i′ (left - 1)))
-            ∙ rw (told, at-slot, on) (ap (λ (l : List (Cell ℕ)). sets now to (map say l)) (sym (cells-from-suc cell i left some)))
+            ∙ rw (is, on) (ap (λ (l : List (Cell ℕ)). sets now to (map say l)) (sym (cells-from-suc cell i left some)))
             ∙ t .rest;
       }
 
@@ -42,8 +41,8 @@ module _ {say : Cell ℕ → ℕ} {cell : ℕ → Cell ℕ} {m n : ℕ} {before 
 
 -- whether a number waits is told by its mark alone
 pub mark-alone : (w h k : List ℕ) (j : ℕ) → cellMark (cellAt [] [] k j) ≡ cellMark (cellAt w h k j)
-mark-alone w h k j = go (eqb (getD k j 0) 0)
+mark-alone w h k j = go (isMissing k j)
   where
-    go : (b : Bool) → cellMark (cond b (missing (getD [] (3 + j) 0)) (waits (getD [] j 0))) ≡ cellMark (cond b (missing (getD w (3 + j) 0)) (waits (getD h j 0)))
+    go : (b : Bool) → cellMark (cond b (missing (timeAt [] j)) (waits (handleAt [] j))) ≡ cellMark (cond b (missing (timeAt w j)) (waits (handleAt h j)))
     go true = refl
     go false = refl

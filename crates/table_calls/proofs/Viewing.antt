@@ -10,10 +10,11 @@ use lib.Dec.{leb}
 use lib.ListN.{length}
 use Rattle.larq.specs.Channel.{window}
 use Rattle.larq.specs.Table.{Key, Lent, lentEnough, priorityFits, channels}
+use Rattle.slots.specs.Slots.{slots, placeWords}
 use Rattle.record.specs.Place.{recordOf}
 use Rattle.table.specs.First.{places, stores}
 use Rattle.table.specs.Key.{firstWord}
-use Rattle.table.specs.Table.{Slices, slices, part, placeAt, tableOf}
+use Rattle.table.specs.Table.{Slices, slices, part, placeAt, tableOf, tableWords, tableSlots}
 use Rattle.table.specs.Way.{tableLent, earlyNumber, placeFor}
 use Rattle.table_calls.specs.Look.{unseen, shownAt, shownFirst, shownOf, lentFor, Looked}
 use Rattle.table_calls.specs.declared.looking.View.{View}
@@ -43,7 +44,7 @@ module _ (keys W H M X Y : List ℕ) (k : Key) where
   wayTo = wayBy (earlyNumber l 0 (k .priority)) (placeFor keys k)
 
   lent-is : lentFor s X Y ≡ lentEnough window l
-  lent-is = rw (and-self (leb 32 (length Y)))
+  lent-is = rw (and-self (leb window (length Y)))
 
   -- a number before the table is looked at
   early : (n : ℕ) → earlyNumber l 0 (k .priority) ≡ n → (n ≡ 0 → ⊥) → shownOf (lentFor s X Y) k (tableOf s) ≡ unseen n
@@ -66,11 +67,11 @@ module _ (keys W H M X Y : List ℕ) (k : Key) where
     unknown : placeFor keys k ≡ Nothing → shownOf (lentFor s X Y) k (tableOf s) ≡ unseen 4
     unknown f = first-shown ∙ ap shownFirst (channels-none k (placeAt s) places 0 (sym (place-is s k fits) ∙ f))
 
-    known : (i : ℕ) → placeFor keys k ≡ At i → shownOf (lentFor s X Y) k (tableOf s) ≡ shownAt (recordOf (part 35 i W) (part 32 i H) (part 32 i M))
+    known : (i : ℕ) → placeFor keys k ≡ At i → shownOf (lentFor s X Y) k (tableOf s) ≡ shownAt (recordOf (part placeWords i W) (part slots i H) (part slots i M))
     known i f =
-        let c = recordOf (part 35 i W) (part 32 i H) (part 32 i M) in
+        let c = recordOf (part placeWords i W) (part slots i H) (part slots i M) in
         let found = finds (stores keys (firstWord k) (k .source)) places 0 i f in
-        let own = own-place keys i k (part 35 i W) (part 32 i H) (part 32 i M) fits (found .passes) in
+        let own = own-place keys i k (part placeWords i W) (part slots i H) (part slots i M) fits (found .passes) in
         let begins = channels-found k (placeAt s) k c places 0 i (sym (place-is s k fits) ∙ f) own in
         first-shown ∙ ap shownFirst (begins .is)
 
@@ -85,11 +86,11 @@ module _ (keys W H M X Y : List ℕ) (k : Key) where
   -- what the look at one place asks
   pub record Goes (i : ℕ) : Type 0 where
     pub here : i < places
-    pub words-sized : length W ≡ 2240
-    pub handles-sized : length H ≡ 2048
-    pub marks-sized : length M ≡ 2048
-    pub marks-room : 32 ≤ length X
-    pub values-room : 32 ≤ length Y
+    pub words-sized : length W ≡ tableWords
+    pub handles-sized : length H ≡ tableSlots
+    pub marks-sized : length M ≡ tableSlots
+    pub marks-room : window ≤ length X
+    pub values-room : window ≤ length Y
 
   module _ (w : Way) (i : ℕ) (by : w ≡ wayTo) (to : w ≡ Way.Known i) where
     at : (earlyNumber l 0 (k .priority) ≡ 0) × (placeFor keys k ≡ At i)
@@ -109,7 +110,7 @@ module _ (keys W H M X Y : List ℕ) (k : Key) where
           values-room = room .returned;
         }
 
-    pub known-looked : (X′ Y′ : List ℕ) (given : View) → Looked (shownAt (recordOf (lent 35 i W) (lent 32 i H) (lent 32 i M))) X X′ Y Y′ given
+    pub known-looked : (X′ Y′ : List ℕ) (given : View) → Looked (shownAt (recordOf (lent placeWords i W) (lent slots i H) (lent slots i M))) X X′ Y Y′ given
         → Looked (shownOf (lentFor s X Y) k (tableOf s)) X X′ Y Y′ given
     known-looked X′ Y′ given g =
-        rw (known (judged-passed l 0 (k .priority) (at .0)) i (at .1)) (rw (lent-part 35 i W, lent-part 32 i H, lent-part 32 i M) at g)
+        rw (known (judged-passed l 0 (k .priority) (at .0)) i (at .1)) (rw (lent-part placeWords i W, lent-part slots i H, lent-part slots i M) at g)

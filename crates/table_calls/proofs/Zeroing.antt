@@ -7,9 +7,11 @@ use native.Mathlib.Omega.{arith}
 use lib.ListN.{length, take, replicate}
 use Rattle.larq.specs.Table.{free, Table}
 use Rattle.larq.specs.Run.{empty}
+use Rattle.slots.specs.Slots.{slots, placeWords}
+use Rattle.table.specs.Key.{keyWords}
 use Rattle.record.proofs.Appending.{drop-replicate}
 use Rattle.table.specs.First.{places}
-use Rattle.table.specs.Table.{Slices, slices, part, placeOf, placeAt, placesFrom, tableOf}
+use Rattle.table.specs.Table.{Slices, slices, part, placeOf, placeAt, placesFrom, tableOf, tableKeys, tableWords, tableSlots}
 use Rattle.table_calls.specs.Emptied.{wholeSlices, allZeros, Emptied}
 use Rattle.table.proofs.Places.{same-places}
 use Rattle.table.proofs.Stored.{zeros-free}
@@ -32,7 +34,7 @@ free-everywhere (suc n) i = ap (λ (t : Table ℕ). free ∷ t) (free-everywhere
 pub emptied : tableOf allZeros ≡ empty
 emptied =
     same-places (placeAt allZeros) (λ j. free) places 0
-    (λ i low high. ap placeOf (rw (part-zeros 2 i 128 (omega arith), part-zeros 35 i 2240 (omega arith), part-zeros 32 i 2048 (omega arith))) ∙ zeros-free)
+    (λ i low high. ap placeOf (rw (part-zeros keyWords i tableKeys (omega arith), part-zeros placeWords i tableWords (omega arith), part-zeros slots i tableSlots (omega arith))) ∙ zeros-free)
     ∙ free-everywhere places 0
 
 -- what `empty` leaves, by whether the slices are those of a table

@@ -3,13 +3,13 @@ use Prim.Native.Nat.{ℕ}
 use mathlib.Core.Path.{_≡_}
 use mathlib.Core.Bool.{Bool, cond}
 use lib.ListN.{length, replicate}
-use Rattle.table.specs.Table.{Slices, slices, whole}
+use Rattle.table.specs.Table.{Slices, slices, whole, tableKeys, tableWords, tableSlots}
 
 abbrev pub wholeSlices : Slices → Bool
 wholeSlices s = whole (length (s .keys)) (length (s .words)) (length (s .handles)) (length (s .marks))
 
 abbrev pub allZeros : Slices
-allZeros = slices (replicate 128 0) (replicate 2240 0) (replicate 2048 0) (replicate 2048 0)
+allZeros = slices (replicate tableKeys 0) (replicate tableWords 0) (replicate tableSlots 0) (replicate tableSlots 0)
 
 -- number 1 and nothing changed where the slices are not those of 64 places; else number 0 and zeros
 pub record Emptied (before after : Slices) (given : ℕ) : Type 0 where

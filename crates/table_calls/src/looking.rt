@@ -1,16 +1,19 @@
 // A look at a channel's record, for a host or a test: nothing changes by it.
 ghost use mathlib.Core.Path.{_≡_};
-ghost use Prim.Native.Nat.{_≤_, _<_};
+ghost use Prim.Native.Nat.{_≤_};
 ghost use mathlib.Core.List.{[], map};
 ghost use lib.ListN.{length};
 ghost use lib.Seq.{sets};
 ghost use Rattle.larq.specs.Channel.{window};
+ghost use Rattle.slots.specs.Slots.{slots, placeWords, slotOf};
 ghost use Rattle.record.specs.Place.{cellsFrom, cellAt, recordOf};
 ghost use Rattle.table.specs.Key.{keyOf};
 ghost use Rattle.table.specs.Table.{slices, tableOf};
 ghost use Rattle.table_calls.specs.Look.{shownAt, shownOf, lentFor, cellMark, cellValue, Looked};
-use record::slot;
 use ring::Seq;
+use slots::handle_of;
+use slots::is_missing;
+use slots::time_of;
 use table::SLOTS;
 use table::WORDS;
 use table::Way;
@@ -41,23 +44,21 @@ fn refuses(number: u8) -> View
     }
 }
 
-// What a slot holds: the handle where its number waits, else the time since when it is missing.
-fn value_at(words: &[u64], handles: &[u32], marks: &[u8], j: usize) -> u64
-    requires { ⌜ (length (now words) ≡ 35) × (length (now handles) ≡ 32) × (length (now marks) ≡ 32) × (j < 32) ⌝ }
-    ensures { λ r. ⌜ r ≡ cellValue (cellAt (now (words .entry)) (now (handles .entry)) (now (marks .entry)) j) ⌝ }
+// What there is of number n: the handle where it waits, else the time since when it is missing.
+fn value_of(words: &[u64], handles: &[u32], marks: &[u8], n: Seq) -> u64
+    ensures { λ r. ⌜ r ≡ cellValue (cellAt (now (words .entry)) (now (handles .entry)) (now (marks .entry)) (slotOf (n .0))) ⌝ }
 {
-    if marks[j] == 0 {
-        return words[3 + j];
+    if is_missing(marks, n) {
+        return time_of(words, n);
     }
-    handles[j] as u64
+    handle_of(handles, n) as u64
 }
 
-// 1 where the slot's number waits, 0 where it is missing.
-fn mark_at(marks: &[u8], j: usize) -> u8
-    requires { ⌜ (length (now marks) ≡ 32) × (j < 32) ⌝ }
-    ensures { λ r. ⌜ r ≡ cellMark (cellAt [] [] (now (marks .entry)) j) ⌝ }
+// 1 where number n waits, 0 where it is missing.
+fn mark_of(marks: &[u8], n: Seq) -> u8
+    ensures { λ r. ⌜ r ≡ cellMark (cellAt [] [] (now (marks .entry)) (slotOf (n .0))) ⌝ }
 {
-    if marks[j] == 0 { 0 } else { 1 }
+    if is_missing(marks, n) { 0 } else { 1 }
 }
 
 // Tells the cells of n numbers from `from` on, one entry of each buffer for a number: 1 and the handle, or 0 and the time.
@@ -70,7 +71,6 @@ fn tell(
     waits: &mut [u8],
     values: &mut [u64],
 )
-    requires { ⌜ (length (now words) ≡ 35) × (length (now handles) ≡ 32) × (length (now marks) ≡ 32) ⌝ }
     requires { ⌜ (n ≤ length (now waits)) × (n ≤ length (now values)) ⌝ }
     ensures { λ _. ⌜ now (waits .exit)
         ≡ sets (now (waits .entry)) 0 (map cellMark (cellsFrom (cellAt (now (words .entry)) (now (handles .entry)) (now (marks .entry))) (from .0) n)) ⌝ }
@@ -81,9 +81,8 @@ fn tell(
     let mut left = n;
     let mut to: usize = 0;
     while 0 < left {
-        let j = slot(i);
-        waits[to] = mark_at(marks, j);
-        values[to] = value_at(words, handles, marks, j);
+        waits[to] = mark_of(marks, i);
+        values[to] = value_of(words, handles, marks, i);
         to += 1;
         i = i.forward(1);
         left -= 1;
@@ -98,23 +97,23 @@ fn look_at(
     waits: &mut [u8],
     values: &mut [u64],
 ) -> View
-    requires { ⌜ (length (now words) ≡ 35) × (length (now handles) ≡ 32) × (length (now marks) ≡ 32) ⌝ }
-    requires { ⌜ (32 ≤ length (now waits)) × (32 ≤ length (now values)) ⌝ }
+    requires { ⌜ (length (now words) ≡ placeWords) × (length (now marks) ≡ slots) ⌝ }
+    requires { ⌜ (window ≤ length (now waits)) × (window ≤ length (now values)) ⌝ }
     ensures { λ r. ⌜ Looked (shownAt (recordOf (now (words .entry)) (now (handles .entry)) (now (marks .entry))))
         (now (waits .entry)) (now (waits .exit)) (now (values .entry)) (now (values .exit)) r ⌝ }
 {
     if !judging::is_sound(words, marks) {
         return refuses(6);
     }
-    let current = words[0] as u16;
-    let oldest = words[1] as u16;
+    let current = slots::current(words) as u16;
+    let oldest = slots::oldest(words) as u16;
     let span = Seq(oldest).steps(Seq(current).forward(1));
     tell(words, handles, marks, Seq(oldest), span, waits, values);
     View {
         number: 0,
         current: current,
         oldest: oldest,
-        latest: words[2],
+        latest: slots::latest(words),
         span: span as usize,
     }
 }

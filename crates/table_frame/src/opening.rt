@@ -2,8 +2,12 @@
 ghost use mathlib.Core.Path.{_≡_};
 ghost use Prim.Native.Nat.{_≤_, _<_};
 ghost use lib.ListN.{length};
+ghost use Rattle.larq.specs.Channel.{window};
+ghost use Rattle.table.specs.Table.{tableKeys, tableWords};
+ghost use Rattle.table.specs.First.{places};
 ghost use Rattle.table_calls.specs.Writes.{Opens};
 use place::Answer;
+use place::begun;
 use ring::Seq;
 use table::KEY_WORDS;
 use table::WORDS;
@@ -20,23 +24,19 @@ pub(crate) fn open_at(
     handle: u32,
     time: u64,
 ) -> Answer
-    requires { ⌜ (length (now keys) ≡ 128) × (length (now words) ≡ 2240) × (32 ≤ length (now up)) × (i < 64) ⌝ }
+    requires { ⌜ (length (now keys) ≡ tableKeys) × (length (now words) ≡ tableWords) × (window ≤ length (now up)) × (i < places) ⌝ }
     ensures { λ r. ⌜ Opens i first second number handle time
         (now (keys .entry)) (now (words .entry)) (now (up .entry))
         (now (keys .exit)) (now (words .exit)) (now (up .exit)) r ⌝ }
 {
-    let oldest = Seq(number).forward(1);
+    let from = WORDS * i;
     keys[KEY_WORDS * i] = first;
     keys[KEY_WORDS * i + 1] = second;
-    words[WORDS * i] = number as u64;
-    words[WORDS * i + 1] = oldest.0 as u64;
-    words[WORDS * i + 2] = time;
-    up[0] = handle;
-    Answer {
-        number: 0,
-        up: 1,
-        returned: 0,
-        nack: 0,
-        lost: 0,
-    }
+    begun(
+        &mut words[from..from + WORDS],
+        up,
+        Seq(number),
+        handle,
+        time,
+    )
 }

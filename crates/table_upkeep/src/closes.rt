@@ -5,9 +5,10 @@ ghost use Prim.Native.Nat.{_<_};
 ghost use lib.ListN.{length};
 ghost use lib.Dec.{eqb};
 ghost use Rattle.larq.specs.Events.{close};
+ghost use Rattle.table.specs.First.{places};
 ghost use Rattle.place.specs.Call.{buffers};
 ghost use Rattle.table.specs.Key.{keyOf};
-ghost use Rattle.table.specs.Table.{slices};
+ghost use Rattle.table.specs.Table.{slices, tableKeys};
 ghost use Rattle.table_calls.specs.Event.{Call};
 ghost use Rattle.table_calls.specs.Writes.{keyed};
 use place::Answer;
@@ -22,7 +23,7 @@ use table::way_of;
 
 // The key of place i is zeros where a close was accepted.
 fn free_key(keys: &mut [u64], i: usize, number: u8)
-    requires { ⌜ (length (now keys) ≡ 128) × (i < 64) ⌝ }
+    requires { ⌜ (length (now keys) ≡ tableKeys) × (i < places) ⌝ }
     ensures { λ _. ⌜ now (keys .exit) ≡ cond (eqb number 0) (keyed (now (keys .entry)) i 0 0) (now (keys .entry)) ⌝ }
 {
     if number == 0 {

@@ -14,6 +14,14 @@ use Rattle.judging.proofs.Spots.{next-at}
 use borrow.Author.Needs.{needs}
 use Rattle.judging.proofs.spot_of.Statement.{statement}
 use Rattle.judging.proofs.spot_of.Tie as tie
+use Rattle.judging.proofs.spot_of.Reads as reads
+use Rattle.judging.proofs.spot_of.Lts as lts
+use Rattle.record.proofs.Record.span.Reads as span-reads
+use Rattle.ring.proofs.Distance.is_ahead.Reads as is-ahead-reads
+use Rattle.ring.proofs.Distance.is_far.Reads as is-far-reads
+use Rattle.ring.proofs.Seq.distance.Reads as distance-reads
+use Rattle.ring.proofs.Seq.steps.Reads as steps-reads
+use Rattle.slots.proofs.is_missing.Reads as is-missing-reads
 
 span-requires : tie.Need-span-requires
 span-requires c κs = search needs
@@ -40,24 +48,31 @@ is-ahead-requires c κs = search needs
 steps-requires : tie.Need-steps-requires
 steps-requires c κs = search needs
 
+-- from past the first test to the function's start
+abbrev start : tie.Else1 → tie.Start
+start c = c .before .before .before .before .before .before .before
+
 returns-3 : tie.Need-returns-3
 returns-3 c =
-    let a = c .before .before .before .before .before .before .before .before .before .before .before .before .before .args in
+    let near = c .before .before .before .before .before .before in
+    let a = start near .args in
     record {
       is = rw (c .steps .ensures) (seen-ahead _ _ (rw (c .before .before .is-ahead .ensures, c .before .before .before .before .before .distance .ensures) at (c .before .if3 .taken)));
       other =
           λ same none. not-both _
-          (and-both _ _ (eq-eqb (a .s .0) (a .r .oldest .0) same)
-          (eq-eqb _ 0 (c .before .before .before .before .before .before .before .before .before .span .ensures ∙ none)))
-          (c .before .before .before .before .before .before .if1 .left);
+          (and-both _ _ (eq-eqb (a .s .0) (a .r .oldest .0) same) (eq-eqb _ 0 (near .before .before .before .span .ensures ∙ none)))
+          (near .if1 .left);
     }
 
 -- past the tests of the distance
-behind : (c : tie.Else3) → BehindAt (c .before .before .before .before .before .before .before .before .before .before .before .before .args .r .current .0) (c .before .before .before .before .before .before .before .before .before .before .before .before .args .s .0)
+abbrev past : tie.Else3 → tie.Else1
+past c = c .before .before .before .before .before
+
+behind : (c : tie.Else3) → BehindAt (start (past c) .args .r .current .0) (start (past c) .args .s .0)
 behind c =
     let far = rw (c .before .before .before .is-far .ensures, c .before .before .before .before .distance .ensures) at (c .before .before .if2 .left) in
     let ahead = rw (c .before .is-ahead .ensures, c .before .before .before .before .distance .ensures) at (c .if3 .left) in
-    let found = seen-behind (c .before .before .before .before .before .before .before .before .before .before .before .before .args .r .current .0) (c .before .before .before .before .before .before .before .before .before .before .before .before .args .s .0) far ahead in
+    let found = seen-behind (start (past c) .args .r .current .0) (start (past c) .args .s .0) far ahead in
     record { by = found .0; is = found .1 }
 
 steps-requires-2 : tie.Need-steps-requires-2
@@ -67,32 +82,29 @@ returns-4 : tie.Need-returns-4
 returns-4 c =
     record {
       behind = behind (c .before .before);
-      unwanted = inl (rw (c .before .before .before .before .before .before .before .before .before .before .span .ensures, c .before .steps2 .ensures) at (c .if4 .taken));
+      unwanted = inl (rw (past (c .before .before) .before .before .before .span .ensures, c .before .steps2 .ensures) at (c .if4 .taken));
     }
 
 -- past the test of the window
-within : (c : tie.Else4) → steps (c .before .before .before .before .before .before .before .before .before .before .before .before .before .before .args .r .oldest .0) (c .before .before .before .before .before .before .before .before .before .before .before .before .before .before .args .s .0) < spanIn (c .before .before .before .before .before .before .before .before .before .before .before .before .before .before .args .r)
-within c = rw (c .before .steps2 .ensures, c .before .before .before .before .before .before .before .before .before .before .span .ensures) at (c .if4 .left)
+within : (c : tie.Else4) → let a = start (past (c .before .before)) .args in steps (a .r .oldest .0) (a .s .0) < spanIn (a .r)
+within c = rw (c .before .steps2 .ensures, past (c .before .before) .before .before .before .span .ensures) at (c .if4 .left)
 
-slot-requires : tie.Need-slot-requires
-slot-requires c κs = search needs
-
-octet-requires : tie.Need-octet-requires
-octet-requires c κs = search needs
+is-missing-requires : tie.Need-is-missing-requires
+is-missing-requires c κs = search needs
 
 returns-5 : tie.Need-returns-5
 returns-5 c =
     record {
-      behind = behind (c .before .before .before .before .before);
-      within = within (c .before .before .before);
-      marked = rw (c .before .octet .ensures, c .before .before .slot .ensures) at (c .if5 .taken);
+      behind = behind (c .before .before .before .before);
+      within = within (c .before .before);
+      marked = sym (c .before .is-missing .ensures) ∙ c .if5 .taken;
     }
 
 returns-6 : tie.Need-returns-6
 returns-6 c =
     record {
-      behind = behind (c .before .before .before .before .before);
-      unwanted = inr (within (c .before .before .before), rw (c .before .octet .ensures, c .before .before .slot .ensures) at (c .if5 .left));
+      behind = behind (c .before .before .before .before);
+      unwanted = inr (within (c .before .before), sym (c .before .is-missing .ensures) ∙ c .if5 .left);
     }
 
 pub spot-of-spec : {M : Type 1} → statement M
@@ -109,7 +121,6 @@ spot-of-spec =
     returns-3
     steps-requires-2
     returns-4
-    slot-requires
-    octet-requires
+    is-missing-requires
     returns-5
     returns-6)

@@ -16,7 +16,7 @@ use Rattle.place_frame.proofs.arrive.Reads as reads
 use Rattle.place_frame.proofs.arrive.Lts as lts
 use Rattle.place_frame.proofs.act.ahead.Reads as ahead-reads
 use Rattle.place_frame.proofs.act.filled.Reads as filled-reads
-use Rattle.place_frame.proofs.act.handed_up.Reads as handed-up-reads
+use Rattle.place.proofs.begun.Reads as begun-reads
 use Rattle.place_frame.proofs.act.restarted.Reads as restarted-reads
 use Rattle.place_frame.proofs.act.sent_back.Reads as sent-back-reads
 use Rattle.judging.proofs.spot_of.Reads as spot-of-reads
@@ -52,14 +52,14 @@ ahead-requires c κs =
     let p = at-entry l .pre in
     (p .0, ((p .1 .0, p .1 .2), ahead-frame (a .r .current .0) (a .s .0) _ (ahead-by l _ (c .before .before .before .before .before .before .d .given .1)) (a .handle)))
 
-accepted-requires : tie.Need-accepted-requires
-accepted-requires c κs = search needs
+counted-requires : tie.Need-counted-requires
+counted-requires c κs = search needs
 
 enum-told : tie.Need-enum-told
 enum-told c = search needs
 
-handed-up-requires : tie.Need-handed-up-requires
-handed-up-requires c κs = search needs
+begun-requires : tie.Need-begun-requires
+begun-requires c κs = search needs
 
 enum-told-2 : tie.Need-enum-told-2
 enum-told-2 c = search needs
@@ -70,8 +70,8 @@ filled-requires c κs =
     let p = at-entry l .pre in
     ((p .0 .0, lies l Missing (c .before .before .before .before .enum-told2 .given .1)), p .1 .0)
 
-accepted-requires-2 : tie.Need-accepted-requires-2
-accepted-requires-2 c κs = search needs
+counted-requires-2 : tie.Need-counted-requires-2
+counted-requires-2 c κs = search needs
 
 enum-told-3 : tie.Need-enum-told-3
 enum-told-3 c = search needs
@@ -105,7 +105,7 @@ returns c =
     let l = c .before .before .before .before .before .before .before .before .before .before .before .before .before .before .before .before .before .before .before .before in
     let a = at-entry l .args in
     let p = at-entry l .pre in
-    frame-ahead (a .s .0) (a .handle) (a .time) (p .0 .0) (a .returned .now) (ahead-by l _ (c .before .before .before .before .before .before .before .before .before .before .before .before .before .before .before .before .before .before .d .given .1)) (c .before .before .before .before .before .before .before .before .before .before .before .ahead .ensures) (c .accepted .ensures)
+    frame-ahead (a .s .0) (a .handle) (a .time) (p .0 .0) (a .returned .now) (ahead-by l _ (c .before .before .before .before .before .before .before .before .before .before .before .before .before .before .before .before .before .before .d .given .1)) (c .before .before .before .before .before .before .before .before .before .before .before .ahead .ensures) (c .counted .ensures)
 
 same-length-6 : tie.Need-same-length-6
 same-length-6 c = search needs
@@ -121,9 +121,9 @@ returns-2 c =
     let l = c .before .before .before .before .before .before .before .before .before in
     let a = at-entry l .args in
     let p = at-entry l .pre in
-    let e = c .before .before .before .before .handed-up .ensures in
+    let e = c .before .before .before .before .begun .ensures in
     frame-next (a .s .0) (a .handle) (a .time) (p .0 .0) (a .up .now) (a .returned .now) (a .nack .now) (p .0 .1) (lies l Next (c .before .before .before .before .before .before .before .enum-told .given .1))
-    (omega (arith, p .1 .0)) (e .0) (e .1) (e .2)
+    (omega (arith, p .1 .0)) (e .head) (e .frame) (e .answer)
 
 same-length-9 : tie.Need-same-length-9
 same-length-9 c = search needs
@@ -143,7 +143,7 @@ returns-3 c =
     let a = at-entry l .args in
     let p = at-entry l .pre in
     frame-missing (a .s .0) (a .handle) (a .time) (p .0 .0) (a .returned .now) (a .nack .now) (lies l Missing (c .before .before .before .before .before .before .before .before .before .before .before .before .before .before .enum-told2 .given .1))
-    (c .before .before .before .before .before .before .before .before .before .filled .ensures) (c .accepted2 .ensures)
+    (c .before .before .before .before .before .before .before .before .before .filled .ensures) (c .counted2 .ensures)
 
 same-length-13 : tie.Need-same-length-13
 same-length-13 c = search needs
@@ -193,12 +193,12 @@ arrive-spec =
     enum-known-d
     sub-ahead
     ahead-requires
-    accepted-requires
+    counted-requires
     enum-told
-    handed-up-requires
+    begun-requires
     enum-told-2
     filled-requires
-    accepted-requires-2
+    counted-requires-2
     enum-told-3
     sent-back-requires
     enum-told-4

@@ -3,6 +3,7 @@ use mathlib.Core.Path.{_≡_, ap, sym, _∙_}
 use borrow.Author.Tests.{not-true, not-false}
 use Rattle.ring.specs.Ring.{seen, Ahead}
 use Rattle.ring.proofs.Sides.{seen-far, seen-ahead, seen-behind}
+use Rattle.larq.specs.Channel.{window, reach}
 use Rattle.place.proofs.Opening.{ahead-reminder}
 use Rattle.place_upkeep.proofs.Reminders.{reminder-ahead, reminder-behind, reminder-far}
 use borrow.Author.Needs.{needs}
@@ -10,7 +11,7 @@ use Rattle.place_upkeep.proofs.remind.Statement.{statement}
 use Rattle.place_upkeep.proofs.remind.Tie as tie
 use Rattle.place_upkeep.proofs.remind.Reads as reads
 use Rattle.place_upkeep.proofs.remind.Lts as lts
-use Rattle.place.proofs.accepted.Reads as accepted-reads
+use Rattle.place.proofs.counted.Reads as counted-reads
 use Rattle.place.proofs.refused.Reads as refused-reads
 use Rattle.ring.proofs.Distance.is_ahead.Reads as is-ahead-reads
 use Rattle.ring.proofs.Distance.is_far.Reads as is-far-reads
@@ -23,7 +24,7 @@ abbrev at-entry : tie.After-steps → tie.Start
 at-entry c = c .before .before .before .before .before .before .before .before .before .before .before .before .before .before .before .before .before
 
 -- the number lies ahead, by the steps that were counted
-ahead-by : (c : tie.After-steps) → seen 64 (at-entry c .args .r .current .0) (at-entry c .args .s .0) ≡ Ahead (c .steps .result)
+ahead-by : (c : tie.After-steps) → seen (reach window) (at-entry c .args .r .current .0) (at-entry c .args .s .0) ≡ Ahead (c .steps .result)
 ahead-by c =
     seen-ahead (at-entry c .args .r .current .0) (at-entry c .args .s .0) (rw (c .before .before .before .before .before .before .before .is-ahead .ensures, c .before .before .before .before .before .before .before .before .before .before .distance .ensures) at (not-false (c .before .before .before .before .before .before .before .is-ahead .result) (c .before .before .before .before .before .before .if2 .left)))
     ∙ ap Ahead (sym (c .steps .ensures))
@@ -73,8 +74,8 @@ reminded-requires c κs =
     let a = e .args in
     (e .pre .0, (e .pre .1, ahead-reminder (a .r .current .0) (a .s .0) _ (ahead-by c)))
 
-accepted-requires : tie.Need-accepted-requires
-accepted-requires c κs = search needs
+counted-requires : tie.Need-counted-requires
+counted-requires c κs = search needs
 
 same-length-2 : tie.Need-same-length-2
 same-length-2 c = search needs
@@ -95,7 +96,7 @@ returns-3 : tie.Need-returns-3
 returns-3 c =
     let e = c .before .before .before .before .before .before .before .before .before .before .before .before .before .before .before .before .before .before .before .before .before .before .before .before .before .before .before in
     let a = e .args in
-    reminder-ahead (e .pre .0 .0) (a .time) (a .s .0) (ahead-by (c .before .before .before .before .before .before .before .before .before .before)) (c .before .before .before .before .before .before .before .before .before .reminded .ensures) (c .accepted .ensures)
+    reminder-ahead (e .pre .0 .0) (a .time) (a .s .0) (ahead-by (c .before .before .before .before .before .before .before .before .before .before)) (c .before .before .before .before .before .before .before .before .before .reminded .ensures) (c .counted .ensures)
 
 pub remind-spec : {M : Type 1} → statement M
 remind-spec =
@@ -111,7 +112,7 @@ remind-spec =
     returns-2
     steps-requires
     reminded-requires
-    accepted-requires
+    counted-requires
     same-length-2
     same-length-3
     same-length-4

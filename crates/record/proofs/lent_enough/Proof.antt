@@ -1,24 +1,22 @@
--- `lent_enough` meets its contract: the rooms of the buffers, and the parts of a place as `is_whole` finds them.
+-- `lent_enough` meets its contract: the rooms of the buffers, and the parts of a place as `is_place` finds them.
 use mathlib.Core.Path.{ap}
 use mathlib.Core.Bool.{_&&_}
 use lib.Dec.{leb}
 use borrow.Author.Needs.{needs}
+use Rattle.larq.specs.Channel.{window}
 use Rattle.record.proofs.lent_enough.Statement.{statement}
 use Rattle.record.proofs.lent_enough.Tie as tie
 use Rattle.record.proofs.lent_enough.Reads as reads
 use Rattle.record.proofs.lent_enough.Lts as lts
-use Rattle.record.proofs.is_whole.Reads as is-whole-reads
+use Rattle.slots.proofs.is_place.Reads as is-place-reads
 
-cast-room : tie.Need-cast-room
-cast-room c = search needs
-
-is-whole-requires : tie.Need-is-whole-requires
-is-whole-requires c κs = search needs
+is-place-requires : tie.Need-is-place-requires
+is-place-requires c κs = search needs
 
 returns : tie.Need-returns
 returns c =
     let a = c .before .args in
-    ap (λ whole. (leb 32 (a .up) && (leb 32 (a .returned) && leb 32 (a .nack))) && whole) (c .is-whole .ensures)
+    ap (λ whole. (leb window (a .up) && (leb window (a .returned) && leb window (a .nack))) && whole) (c .is-place .ensures)
 
 pub lent-enough-spec : {M : Type 1} → statement M
-lent-enough-spec = tie.close (tie.spec cast-room is-whole-requires returns)
+lent-enough-spec = tie.close (tie.spec is-place-requires returns)

@@ -1,17 +1,16 @@
 -- `miss` meets its contract. The loop keeps: what is still to be put from here is what was to be put from the start (Stamping, `Misses`).
 use native.Mathlib.Omega.{arith}
-use borrow.Author.Needs.{needs}
 use Rattle.stepping.proofs.Stamping.{Misses, misses-end, misses-turn}
+use borrow.Author.Needs.{needs}
 use Rattle.stepping.proofs.miss.Statement.{statement}
 use Rattle.stepping.proofs.miss.Tie as tie
 use Rattle.stepping.proofs.miss.Reads as reads
 use Rattle.stepping.proofs.miss.Lts as lts
-use Rattle.record.proofs.slot.Reads as slot-reads
 use Rattle.ring.proofs.Seq.forward.Reads as forward-reads
+use Rattle.slots.proofs.set_missing.Reads as set-missing-reads
 
 abbrev Inv-loop : tie.InvT-loop
-Inv-loop words₀ marks₀ nack₀ n time i₀ left₀ to₀ words marks nack i left to =
-    Misses (i₀ .0) n time words₀ marks₀ nack₀ words marks nack (i .0) left to
+Inv-loop words₀ marks₀ nack₀ n time i₀ left₀ to₀ words marks nack i left to = Misses (i₀ .0) n time words₀ marks₀ nack₀ words marks nack (i .0) left to
 
 abbrev μ-loop : tie.MeasureT-loop
 μ-loop words₀ marks₀ nack₀ n time i₀ left₀ to₀ words marks nack i left to = left
@@ -19,20 +18,8 @@ abbrev μ-loop : tie.MeasureT-loop
 loop-holds : tie.Need-loop-holds Inv-loop μ-loop
 loop-holds c = search needs
 
-slot-requires : tie.Need-slot-requires Inv-loop μ-loop
-slot-requires c κs = search needs
-
-add-words : tie.Need-add-words Inv-loop μ-loop
-add-words c = search needs
-
-mul-words : tie.Need-mul-words Inv-loop μ-loop
-mul-words c = search needs
-
-slice-write-words : tie.Need-slice-write-words Inv-loop μ-loop
-slice-write-words c = search needs
-
-slice-write-marks : tie.Need-slice-write-marks Inv-loop μ-loop
-slice-write-marks c = search needs
+set-missing-requires : tie.Need-set-missing-requires Inv-loop μ-loop
+set-missing-requires c κs = search needs
 
 mul-nack : tie.Need-mul-nack Inv-loop μ-loop
 mul-nack c = search needs
@@ -53,7 +40,10 @@ loop-less : tie.Need-loop-less Inv-loop μ-loop
 loop-less c = search needs
 
 loop-again : tie.Need-loop-again Inv-loop μ-loop
-loop-again c = misses-turn (c .before .before .before .loop .inv) (omega arith) (c .before .slot .ensures) (c .forward .ensures)
+loop-again c =
+    let set = c .before .before .before .before .before in
+    let e = set .set-missing .ensures in
+    rw (e .0, e .1) (misses-turn (set .before .before .before .before .loop .inv) (omega arith) (c .forward .ensures))
 
 same-length : tie.Need-same-length Inv-loop μ-loop
 same-length c = search needs
@@ -74,11 +64,7 @@ miss-spec =
     Inv-loop
     μ-loop
     loop-holds
-    slot-requires
-    add-words
-    mul-words
-    slice-write-words
-    slice-write-marks
+    set-missing-requires
     mul-nack
     slice-write-nack
     add-to

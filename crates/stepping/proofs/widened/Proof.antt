@@ -56,7 +56,7 @@ miss-requires : tie.Need-miss-requires
 miss-requires c κs =
     let g = c .before .before .before .before .before .before .before .before in
     let e = fits g .enough in
-    ((e .words-sized, e .marks-sized), omega (arith, e .nack-room, asked-few (fits g) (g .grown .ensures)))
+    omega (arith, e .nack-room, asked-few (fits g) (g .grown .ensures))
 
 sub-t15 : tie.Need-sub-t15
 sub-t15 c =

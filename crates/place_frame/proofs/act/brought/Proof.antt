@@ -1,55 +1,58 @@
--- `brought` meets its contract: the slot of s is s modulo 32, and there M finds the number waiting when it settles.
-use mathlib.Core.Path.{ap, _∙_, subst⁻¹}
+-- `brought` meets its contract: M finds the number waiting at its slot when it settles.
+use Prim.Native.Nat.{ℕ}
+use mathlib.Core.List.{List}
+use mathlib.Core.Path.{_≡_, _∙_}
 use native.Mathlib.Omega.{arith}
-use lib.ListN.{set, length-set}
+use Rattle.slots.specs.Slots.{slotOf, withHandle, withWaiting}
+use Rattle.slots.proofs.Stores.{length-handled, length-waiting}
 use Rattle.place.specs.Steps.{Sized, Roomy}
-use Rattle.place.proofs.Places.{walked, finished}
+use Rattle.place.proofs.Places.{settled-room, finished}
 use borrow.Author.Needs.{needs}
 use Rattle.place_frame.proofs.act.brought.Statement.{statement}
 use Rattle.place_frame.proofs.act.brought.Tie as tie
 use Rattle.place_frame.proofs.act.brought.Reads as reads
 use Rattle.place_frame.proofs.act.brought.Lts as lts
 use Rattle.record.proofs.Record.settle.Reads as settle-reads
-use Rattle.record.proofs.slot.Reads as slot-reads
+use Rattle.slots.proofs.set_waiting.Reads as set-waiting-reads
 
-abbrev at-entry : tie.After-slot → tie.Start
-at-entry c = c .before .before .before .before .before
+abbrev start : tie.After-set-waiting → tie.Start
+start c = c .before .before .before .before .before .before .before
 
 -- the place and its room, as M finds them
-sized : (c : tie.After-slot)
-    → Sized (at-entry c .args .words .now) (set (at-entry c .args .handles .now) (c .slot .result) (at-entry c .args .handle)) (set (at-entry c .args .marks .now) (c .slot .result) 1)
+sized : (c : tie.After-set-waiting)
+    → let a = start c .args in Sized (a .words .now) (withHandle (a .handles .now) (slotOf (a .s .0)) (a .handle)) (withWaiting (a .marks .now) (slotOf (a .s .0)))
 sized c =
-    let a = at-entry c .args in
-    let p = at-entry c .pre .0 in
-    record { words = p .words; handles = length-set (a .handles .now) _ (a .handle) ∙ p .handles; marks = length-set (a .marks .now) _ 1 ∙ p .marks }
+    let a = start c .args in
+    let p = start c .pre .0 in
+    record { words = p .words; handles = length-handled (a .handles .now) _ (a .handle) ∙ p .handles; marks = length-waiting (a .marks .now) _ ∙ p .marks }
 
-roomy : (c : tie.After-slot)
-    → Roomy (at-entry c .args .r) (at-entry c .args .had) (at-entry c .args .words .now) (set (at-entry c .args .handles .now) (c .slot .result) (at-entry c .args .handle)) (set (at-entry c .args .marks .now) (c .slot .result) 1)
-    (at-entry c .args .up .now)
-roomy c =
-    let a = at-entry c .args in
-    subst⁻¹ (λ i. Roomy (a .r) (a .had) (a .words .now) (set (a .handles .now) i (a .handle)) (set (a .marks .now) i 1) (a .up .now)) (c .slot .ensures)
-    (at-entry c .pre .1)
+roomy : (c : tie.After-set-waiting)
+    → let a = start c .args in
+    Roomy (a .r) (a .had) (a .words .now) (withHandle (a .handles .now) (slotOf (a .s .0)) (a .handle)) (withWaiting (a .marks .now) (slotOf (a .s .0))) (a .up .now)
+roomy c = start c .pre .1
 
-slot-requires : tie.Need-slot-requires
-slot-requires c κs = search needs
+-- the same of the handles and marks that the store has left
+left : {h k h′ k′ : List ℕ} (P : List ℕ → List ℕ → Type 0) → h′ ≡ h → k′ ≡ k → P h k → P h′ k′
+left P e f p = rw (e, f) p
 
-mul-handles : tie.Need-mul-handles
-mul-handles c = search needs
+abbrev waiting : tie.After-settle → tie.After-set-waiting
+waiting c = c .before .before .before .before .before .before .before .before .before
 
-slice-write-handles : tie.Need-slice-write-handles
-slice-write-handles c = search needs
-
-slice-write-marks : tie.Need-slice-write-marks
-slice-write-marks c = search needs
+set-waiting-requires : tie.Need-set-waiting-requires
+set-waiting-requires c κs = search needs
 
 settle-requires : tie.Need-settle-requires
 settle-requires c κs = search needs
 
-add-t11 : tie.Need-add-t11
-add-t11 c =
-    let j = c .before .before .before .before .before .before .before .before .before .before .before in
-    omega (arith, walked (sized j) (roomy j .room) (c .before .before .before .before .before .before .settle .ensures .0) .up .end-is, roomy j .room)
+add-t23 : tie.Need-add-t23
+add-t23 c =
+    let done = c .before .before .before .before .before .before in
+    let waits = waiting done in
+    let a = start waits .args in
+    let e = waits .set-waiting .ensures in
+    let fits = left (Sized (a .words .now)) (e .0) (e .1) (sized waits) in
+    let room = left (λ h k. Roomy (a .r) (a .had) (a .words .now) h k (a .up .now)) (e .0) (e .1) (roomy waits) in
+    omega (arith, settled-room fits room (done .settle .ensures .0), start waits .good .1 .1 .1 .1 .0)
 
 same-length : tie.Need-same-length
 same-length c = search needs
@@ -65,21 +68,21 @@ same-length-4 c = search needs
 
 returns : tie.Need-returns
 returns c =
-    let j = c .before .before .before .before .before .before .before .before .before .before .before in
-    let a = at-entry j .args in
-    let e = c .before .before .before .before .before .before .settle .ensures in
-    (ap (λ i. set (a .handles .now) i (a .handle)) (j .slot .ensures), ap (λ i. set (a .marks .now) i 1) (j .slot .ensures), finished (sized j) (roomy j) (e .0) (e .1))
+    let done = c .before .before .before .before .before .before in
+    let waits = waiting done in
+    let a = start waits .args in
+    let e = waits .set-waiting .ensures in
+    let fits = left (Sized (a .words .now)) (e .0) (e .1) (sized waits) in
+    let room = left (λ h k. Roomy (a .r) (a .had) (a .words .now) h k (a .up .now)) (e .0) (e .1) (roomy waits) in
+    (e .0, e .1, finished fits room (done .settle .ensures .0) (done .settle .ensures .1))
 
 pub brought-spec : {M : Type 1} → statement M
 brought-spec =
     tie.close
     (tie.spec
-    slot-requires
-    mul-handles
-    slice-write-handles
-    slice-write-marks
+    set-waiting-requires
     settle-requires
-    add-t11
+    add-t23
     same-length
     same-length-2
     same-length-3

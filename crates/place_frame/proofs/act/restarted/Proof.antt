@@ -1,11 +1,11 @@
--- `restarted` meets its contract: what `hand` and `handed_up` leave is handed to the law of a restart (Restarting).
+-- `restarted` meets its contract: what `hand` and `begun` leave is handed to the law of a restart (Restarting).
 use Rattle.place.proofs.Restarting.{restarted-did}
 use borrow.Author.Needs.{needs}
 use Rattle.place_frame.proofs.act.restarted.Statement.{statement}
 use Rattle.place_frame.proofs.act.restarted.Tie as tie
 use Rattle.place_frame.proofs.act.restarted.Reads as reads
 use Rattle.place_frame.proofs.act.restarted.Lts as lts
-use Rattle.place_frame.proofs.act.handed_up.Reads as handed-up-reads
+use Rattle.place.proofs.begun.Reads as begun-reads
 use Rattle.record.proofs.Record.span.Reads as span-reads
 use Rattle.record.proofs.hand.Reads as hand-reads
 
@@ -15,8 +15,8 @@ span-requires c κs = search needs
 hand-requires : tie.Need-hand-requires
 hand-requires c κs = search needs
 
-handed-up-requires : tie.Need-handed-up-requires
-handed-up-requires c κs = search needs
+begun-requires : tie.Need-begun-requires
+begun-requires c κs = search needs
 
 same-length : tie.Need-same-length
 same-length c = search needs
@@ -30,8 +30,8 @@ same-length-3 c = search needs
 returns : tie.Need-returns
 returns c =
     let p = c .before .before .before .before .before .before .before .before .before .before .before .before .before .before .before .before .before .pre in
-    let up = c .before .before .before .before .handed-up .ensures in
-    restarted-did (p .0 .0) (c .before .before .before .before .before .before .before .before .before .before .before .span .ensures) (c .before .before .before .before .before .before .before .before .before .hand .ensures) (p .1 .0) (p .1 .1) (up .0) (up .1) (up .2)
+    let up = c .before .before .before .before .begun .ensures in
+    restarted-did (p .0 .0) (c .before .before .before .before .before .before .before .before .before .before .before .span .ensures) (c .before .before .before .before .before .before .before .before .before .hand .ensures) (p .1 .0) (p .1 .1) (up .head) (up .frame) (up .answer)
 
 pub restarted-spec : {M : Type 1} → statement M
 restarted-spec =
@@ -39,7 +39,7 @@ restarted-spec =
     (tie.spec
     span-requires
     hand-requires
-    handed-up-requires
+    begun-requires
     same-length
     same-length-2
     same-length-3

@@ -23,6 +23,12 @@ zero-u32-requires c κs = search needs
 zero-u8-requires : tie.Need-zero-u8-requires
 zero-u8-requires c κs = search needs
 
+accepted-requires : tie.Need-accepted-requires
+accepted-requires c κs = search needs
+
+abbrev start : tie.After-span → tie.Start
+start c = c .before .before .before .before .before .before .before
+
 same-length : tie.Need-same-length
 same-length c = search needs
 
@@ -37,9 +43,11 @@ same-length-4 c = search needs
 
 returns : tie.Need-returns
 returns c =
-    let p = c .before .before .before .before .before .before .before .before .before .before .before .before .before .before .before .before .before .before .before .before .before .before .before .pre in
-    closed-did (p .0) (c .before .before .before .before .before .before .before .before .before .before .before .before .before .before .before .before .span .ensures) (c .before .before .before .before .before .before .before .before .before .before .before .before .before .before .hand .ensures) (p .1) (c .before .before .before .before .before .before .before .before .before .before .zero-u64 .ensures) (c .before .before .before .before .before .before .zero-u32 .ensures)
-    (c .before .before .zero-u8 .ensures)
+    let freed = c .before .before .before .before .before .before .before .before .before .before .before in
+    let given = freed .before .before .before .before .before .before in
+    let p = start given .pre in
+    closed-did (p .0) (given .span .ensures) (freed .before .before .before .before .hand .ensures) (p .1) (freed .zero-u64 .ensures)
+    (c .before .before .before .before .before .before .before .zero-u32 .ensures) (c .before .before .before .zero-u8 .ensures) (c .accepted .ensures)
 
 pub closed-spec : {M : Type 1} → statement M
 closed-spec =
@@ -50,6 +58,7 @@ closed-spec =
     zero-u64-requires
     zero-u32-requires
     zero-u8-requires
+    accepted-requires
     same-length
     same-length-2
     same-length-3

@@ -1,7 +1,8 @@
--- `reminded` meets its contract: what `widened` and `settle` leave is handed to the laws of the step ahead (StepAhead of channel).
+-- `reminded` meets its contract: what `widened` and `settle` leave is handed to the laws of the step ahead (StepAhead of place).
 use Prim.Native.Nat.{ℕ, _≤_, _<_}
 use mathlib.Core.Path.{refl}
 use native.Mathlib.Omega.{arith}
+use Rattle.larq.specs.Channel.{window}
 use Rattle.place.proofs.Places.{finished}
 use Rattle.place.proofs.StepAhead.{stepped, widened-sized, settle-room, gone-few, ahead-did}
 use borrow.Author.Needs.{needs}
@@ -16,7 +17,7 @@ use Rattle.stepping.proofs.widened.Reads as widened-reads
 abbrev at-entry : tie.After-widened → tie.Start
 at-entry c = c .before .before .before .before .before .before .before .before .before .before
 
-window-fits : {n : ℕ} → n ≤ 32 → n < 18446744073709551616
+window-fits : {n : ℕ} → n ≤ window → n < 18446744073709551616
 window-fits l = omega arith
 
 widened-requires : tie.Need-widened-requires

@@ -6,6 +6,7 @@ use Rattle.place_upkeep.proofs.act.ticked.Tie as tie
 use Rattle.place_upkeep.proofs.act.ticked.Reads as reads
 use Rattle.place_upkeep.proofs.act.ticked.Lts as lts
 use Rattle.record.proofs.Record.arrived.Reads as arrived-reads
+use Rattle.place.proofs.accepted.Reads as accepted-reads
 use Rattle.record.proofs.Record.settle.Reads as settle-reads
 use Rattle.place_upkeep.proofs.act.stale_before.Reads as stale-before-reads
 
@@ -18,6 +19,9 @@ stale-before-requires c κs = search needs
 settle-requires : tie.Need-settle-requires
 settle-requires c κs = search needs
 
+accepted-requires : tie.Need-accepted-requires
+accepted-requires c κs = search needs
+
 same-length : tie.Need-same-length
 same-length c = search needs
 
@@ -26,10 +30,12 @@ same-length-2 c = search needs
 
 returns : tie.Need-returns
 returns c =
-    let a = c .before .before .before .before .before .before .before .before .arrived .ensures in
-    let e = c .before .before .before .before .before .before .before .before .before .before .before .before .before in
-    let s = c .before .before .before .before .settle .ensures in
-    ticked-did (e .pre .0) (e .args .time) (c .before .before .before .before .before .stale-before .ensures) (a .0) (a .1) (a .2) (e .pre .1) (s .0) (s .1)
+    let done = c .before .before .before .before .before in
+    let arrived = done .before .before .before .before in
+    let start = arrived .before .before .before .before .before in
+    let a = arrived .arrived .ensures in
+    let s = done .settle .ensures in
+    ticked-did (start .pre .0) (start .args .time) (done .before .stale-before .ensures) (a .0) (a .1) (a .2) (start .pre .1) (s .0) (s .1) (c .accepted .ensures)
 
 pub ticked-spec : {M : Type 1} → statement M
 ticked-spec =
@@ -38,6 +44,7 @@ ticked-spec =
     arrived-requires
     stale-before-requires
     settle-requires
+    accepted-requires
     same-length
     same-length-2
     returns)

@@ -4,6 +4,7 @@ use mathlib.Core.Path.{_≡_, ap, ap₂, _∙_}
 use native.Mathlib.Omega.{arith}
 use Rattle.ring.specs.Ring.{forward}
 use borrow.Author.Needs.{needs}
+use Rattle.larq.specs.Channel.{window}
 use Rattle.record.proofs.Record.grown.Statement.{statement}
 use Rattle.record.proofs.Record.grown.Tie as tie
 use Rattle.record.proofs.Record.grown.Reads as reads
@@ -63,7 +64,7 @@ returns c =
     let span = c .before .before .before .before .before .before .before .span .ensures in
     let past = c .before .before .before .before .excess2 .ensures ∙ ap (λ n. over .result - n) span in
     record {
-      over = over .ensures ∙ ap₂ (λ x y. x + y - 32) span (c .before .before .before .before .before .before .steps .ensures);
+      over = over .ensures ∙ ap₂ (λ x y. x + y - window) span (c .before .before .before .before .before .before .steps .ensures);
       old = ap (λ n. over .result - n) past;
       first = c .before .forward .ensures ∙ ap (λ n. forward (a .self .current .0) (1 + n)) past;
       count = c .excess3 .ensures ∙ ap (λ n. a .made - n) past;

@@ -1,7 +1,9 @@
 -- `Record::settled` meets its contract. The loop keeps: what M's walk makes of the rest is what it made of the whole (Settling, `Settles-on`).
-use mathlib.Core.Path.{_≡_, refl, _∙_}
+use mathlib.Core.Path.{_≡_, refl, sym, _∙_}
 use mathlib.Core.Logic.{⊎-elim}
 use native.Mathlib.Omega.{arith}
+use Rattle.record.specs.Moving.{spanIn}
+use Rattle.record.specs.Walk.{settleNumbers}
 use Rattle.record.proofs.Settling.{Settles-on, settles-start, settles, rests-none, rests-missing, passes-waits, passes-missing}
 use borrow.Author.Needs.{needs}
 use Rattle.record.proofs.Record.settled.Statement.{statement}
@@ -10,11 +12,13 @@ use Rattle.record.proofs.Record.settled.Reads as reads
 use Rattle.record.proofs.Record.settled.Lts as lts
 use Rattle.record.proofs.Record.moved.Reads as moved-reads
 use Rattle.record.proofs.Record.span.Reads as span-reads
-use Rattle.record.proofs.slot.Reads as slot-reads
-use Rattle.record.proofs.is_whole.Reads as is-whole-reads
 use Rattle.record.proofs.window.all_or_none.Reads as all-or-none-reads
 use Rattle.record.proofs.window.least.Reads as least-reads
 use Rattle.record.proofs.window.room_from.Reads as room-from-reads
+use Rattle.slots.proofs.handle_of.Reads as handle-of-reads
+use Rattle.slots.proofs.is_missing.Reads as is-missing-reads
+use Rattle.slots.proofs.is_place.Reads as is-place-reads
+use Rattle.slots.proofs.time_of.Reads as time-of-reads
 
 abbrev Inv-loop : tie.InvT-loop
 Inv-loop words handles marks up₀ at until kept₀ left₀ gone₀ lost₀ up kept left gone lost =
@@ -25,8 +29,20 @@ Inv-loop words handles marks up₀ at until kept₀ left₀ gone₀ lost₀ up k
 abbrev μ-loop : tie.MeasureT-loop
 μ-loop words handles marks up₀ at until kept₀ left₀ gone₀ lost₀ up kept left gone lost = left
 
-is-whole-requires : tie.Need-is-whole-requires Inv-loop μ-loop
-is-whole-requires c κs = search needs
+abbrev at-entry : tie.After-all-or-none Inv-loop μ-loop → tie.Start Inv-loop μ-loop
+at-entry c = c .before .before .before .before .before .before .before .before .before
+
+-- over how many numbers M walks
+numbers : (c : tie.After-all-or-none Inv-loop μ-loop)
+    → c .all-or-none .result
+    ≡ settleNumbers (at-entry c .args .words .now) (at-entry c .args .handles .now) (at-entry c .args .marks .now) (spanIn (at-entry c .args .self)) (at-entry c .args .at)
+    (at-entry c .args .up .now)
+numbers c =
+    rw (c .before .least .ensures, c .before .before .room-from .ensures, c .before .before .before .span .ensures, c .before .before .before .before .is-place .ensures)
+    at (c .all-or-none .ensures)
+
+is-place-requires : tie.Need-is-place-requires Inv-loop μ-loop
+is-place-requires c κs = search needs
 
 span-requires : tie.Need-span-requires Inv-loop μ-loop
 span-requires c κs = search needs
@@ -41,43 +57,31 @@ all-or-none-requires : tie.Need-all-or-none-requires Inv-loop μ-loop
 all-or-none-requires c κs = search needs
 
 loop-holds : tie.Need-loop-holds Inv-loop μ-loop
-loop-holds c = (settles-start _ _ _ _ _ (c .before .before .before .span .result) _ (c .before .before .before .before .before .before .before .before .before .args .at) _ (rw (c .before .least .ensures, c .before .before .room-from .ensures, c .before .before .before .before .is-whole .ensures) at (c .all-or-none .ensures)), refl, refl)
+loop-holds c = (settles-start _ _ _ _ _ _ _ _ _ (numbers c), refl, refl)
 
-slot-requires : tie.Need-slot-requires Inv-loop μ-loop
-slot-requires c κs = search needs
+is-missing-requires : tie.Need-is-missing-requires Inv-loop μ-loop
+is-missing-requires c κs = search needs
 
-shared-slice-read-if1 : tie.Need-shared-slice-read-if1 Inv-loop μ-loop
-shared-slice-read-if1 c = omega (arith, c .before .before .before .loop .inv .0 .marks-sized (omega arith), c .before .slot .ensures)
+time-of-requires : tie.Need-time-of-requires Inv-loop μ-loop
+time-of-requires c κs = search needs
 
-mul-up : tie.Need-mul-up Inv-loop μ-loop
-mul-up c = search needs
+add-lost : tie.Need-add-lost Inv-loop μ-loop
+add-lost c = search needs
 
-shared-slice-read-up : tie.Need-shared-slice-read-up Inv-loop μ-loop
-shared-slice-read-up c = omega (arith, c .before .before .before .before .before .loop .inv .0 .handles-sized (omega arith), c .before .before .before .slot .ensures)
+handle-of-requires : tie.Need-handle-of-requires Inv-loop μ-loop
+handle-of-requires c κs = search needs
 
 add-up : tie.Need-add-up Inv-loop μ-loop
 add-up c = omega (arith, c .before .before .before .before .before .loop .inv .0 .room (omega arith))
 
-mul-up-2 : tie.Need-mul-up-2 Inv-loop μ-loop
-mul-up-2 c = search (needs, c .before .before .before .before .before .loop .inv .0 .room (omega arith))
+mul-up : tie.Need-mul-up Inv-loop μ-loop
+mul-up c = search (needs, c .before .before .before .before .before .loop .inv .0 .room (omega arith))
 
 slice-write-up : tie.Need-slice-write-up Inv-loop μ-loop
 slice-write-up c = omega (arith, c .before .before .before .before .before .loop .inv .0 .room (omega arith))
 
 add-gone : tie.Need-add-gone Inv-loop μ-loop
 add-gone c = search needs
-
-add-if2 : tie.Need-add-if2 Inv-loop μ-loop
-add-if2 c = search needs
-
-mul-if2 : tie.Need-mul-if2 Inv-loop μ-loop
-mul-if2 c = search needs
-
-shared-slice-read-if2 : tie.Need-shared-slice-read-if2 Inv-loop μ-loop
-shared-slice-read-if2 c = omega (arith, c .before .before .before .before .before .loop .inv .0 .words-sized (omega arith), c .before .before .before .slot .ensures)
-
-add-lost : tie.Need-add-lost Inv-loop μ-loop
-add-lost c = search needs
 
 moved-requires : tie.Need-moved-requires Inv-loop μ-loop
 moved-requires c κs = search needs
@@ -90,15 +94,15 @@ loop-less c = search needs
 
 loop-again : tie.Need-loop-again Inv-loop μ-loop
 loop-again c =
-    let l = c .before .before .before .before .before .loop in
-    let at-slot = c .before .before .before .slot .ensures in
+    let place = c .before .before in
+    let inv = place .before .before .before .loop .inv in
     let e = c .moved .ensures in (
       ⊎-elim
-          (λ v. rw (v .2, v .3, v .4) (passes-waits (l .inv .0) (omega arith) at-slot (e .1) (v .0 .taken)))
-          (λ v. rw (v .3, v .4, v .5) (passes-missing (l .inv .0) (omega arith) at-slot (e .1) (v .0 .left) (v .2 .left)))
+          (λ v. rw (v .3, v .4, v .5) (passes-missing (inv .0) (omega arith) (e .1) (sym (place .is-missing .ensures) ∙ v .0 .taken) (v .1 .ensures) (v .2 .left)))
+          (λ v. rw (v .2, v .3, v .4) (passes-waits (inv .0) (omega arith) (e .1) (sym (place .is-missing .ensures) ∙ v .0 .left) (v .1 .ensures)))
           (c .before .if1 .came),
-      e .0 ∙ l .inv .1,
-      e .2 ∙ l .inv .2,
+      e .0 ∙ inv .1,
+      e .2 ∙ inv .2,
     )
 
 same-length : tie.Need-same-length Inv-loop μ-loop
@@ -106,18 +110,20 @@ same-length c = search needs
 
 returns : tie.Need-returns Inv-loop μ-loop
 returns c =
-    let l = c .before .loop in
-    settles (c .before .before .before .before .before .before .before .before .before .before .before .args .self) _ (rw (c .before .before .before .least .ensures, c .before .before .before .before .room-from .ensures, c .before .before .before .before .before .span .ensures, c .before .before .before .before .before .before .is-whole .ensures) at (c .before .before .all-or-none .ensures))
-    (rests-none (l .inv .0) (omega arith)) (l .inv .1) (l .inv .2)
+    let inv = c .before .loop .inv in
+    settles _ _ (numbers (c .before .before)) (rests-none (inv .0) (omega arith)) (inv .1) (inv .2)
 
 same-length-2 : tie.Need-same-length-2 Inv-loop μ-loop
 same-length-2 c = search needs
 
 returns-2 : tie.Need-returns-2 Inv-loop μ-loop
 returns-2 c =
-    let l = c .before .before .before .before .before .before .loop in
-    settles (c .before .before .before .before .before .before .before .before .before .before .before .before .before .before .before .before .args .self) _ (rw (c .before .before .before .before .before .before .before .before .least .ensures, c .before .before .before .before .before .before .before .before .before .room-from .ensures, c .before .before .before .before .before .before .before .before .before .before .span .ensures, c .before .before .before .before .before .before .before .before .before .before .before .is-whole .ensures) at (c .before .before .before .before .before .before .before .all-or-none .ensures))
-    (rests-missing (l .inv .0) (omega arith) (c .before .before .before .before .slot .ensures) (c .before .before .if1 .left) (c .if2 .taken)) (l .inv .1) (l .inv .2)
+    let place = c .before .before .before in
+    let turn = place .before .before .before in
+    let inv = turn .loop .inv in
+    settles _ _ (numbers (turn .before))
+    (rests-missing (inv .0) (omega arith) (sym (place .is-missing .ensures) ∙ c .before .before .if1 .taken) (c .before .time-of .ensures) (c .if2 .taken)) (inv .1)
+    (inv .2)
 
 pub settled-spec : {M : Type 1} → statement M
 settled-spec =
@@ -125,24 +131,20 @@ settled-spec =
     (tie.spec
     Inv-loop
     μ-loop
-    is-whole-requires
+    is-place-requires
     span-requires
     room-from-requires
     least-requires
     all-or-none-requires
     loop-holds
-    slot-requires
-    shared-slice-read-if1
-    mul-up
-    shared-slice-read-up
+    is-missing-requires
+    time-of-requires
+    add-lost
+    handle-of-requires
     add-up
-    mul-up-2
+    mul-up
     slice-write-up
     add-gone
-    add-if2
-    mul-if2
-    shared-slice-read-if2
-    add-lost
     moved-requires
     sub-left
     loop-less

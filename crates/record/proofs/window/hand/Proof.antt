@@ -1,7 +1,8 @@
 -- `hand` meets its contract. The loop keeps: what is still to be laid from here is what was to be laid from the start (Waiting, `Lays`).
-use mathlib.Core.Path.{_≡_}
+use mathlib.Core.Path.{_≡_, sym, _∙_}
 use mathlib.Core.Logic.{⊎-elim}
 use native.Mathlib.Omega.{arith}
+use borrow.Author.Tests.{not-true, not-false}
 use Rattle.record.specs.Walk.{handNumbers}
 use Rattle.record.proofs.Waiting.{Lays, lays-start, lays-end, lays-waits, lays-missing}
 use borrow.Author.Needs.{needs}
@@ -9,10 +10,11 @@ use Rattle.record.proofs.window.hand.Statement.{statement}
 use Rattle.record.proofs.window.hand.Tie as tie
 use Rattle.record.proofs.window.hand.Reads as reads
 use Rattle.record.proofs.window.hand.Lts as lts
-use Rattle.record.proofs.is_whole.Reads as is-whole-reads
-use Rattle.record.proofs.slot.Reads as slot-reads
 use Rattle.record.proofs.window.all_or_none.Reads as all-or-none-reads
 use Rattle.ring.proofs.Seq.forward.Reads as forward-reads
+use Rattle.slots.proofs.handle_of.Reads as handle-of-reads
+use Rattle.slots.proofs.is_missing.Reads as is-missing-reads
+use Rattle.slots.proofs.is_place.Reads as is-place-reads
 
 abbrev Inv-loop : tie.InvT-loop
 Inv-loop handles marks n out₀ left₀ to₀ i₀ out left to i = Lays handles marks (i₀ .0) left₀ out₀ out to (i .0) left
@@ -26,10 +28,10 @@ at-entry c = c .before .before .before .before .before
 -- all n numbers, or none
 numbers : (c : tie.After-all-or-none Inv-loop μ-loop)
     → c .all-or-none .result ≡ handNumbers (at-entry c .args .handles .now) (at-entry c .args .marks .now) (at-entry c .args .n) (at-entry c .args .out .now)
-numbers c = rw (c .before .is-whole .ensures) at (c .all-or-none .ensures)
+numbers c = rw (c .before .is-place .ensures) at (c .all-or-none .ensures)
 
-is-whole-requires : tie.Need-is-whole-requires Inv-loop μ-loop
-is-whole-requires c κs = search needs
+is-place-requires : tie.Need-is-place-requires Inv-loop μ-loop
+is-place-requires c κs = search needs
 
 all-or-none-requires : tie.Need-all-or-none-requires Inv-loop μ-loop
 all-or-none-requires c κs = search needs
@@ -37,20 +39,14 @@ all-or-none-requires c κs = search needs
 loop-holds : tie.Need-loop-holds Inv-loop μ-loop
 loop-holds c = lays-start _ _ _ _ _ (numbers c)
 
-slot-requires : tie.Need-slot-requires Inv-loop μ-loop
-slot-requires c κs = search needs
+is-missing-requires : tie.Need-is-missing-requires Inv-loop μ-loop
+is-missing-requires c κs = search needs
 
-shared-slice-read-if1 : tie.Need-shared-slice-read-if1 Inv-loop μ-loop
-shared-slice-read-if1 c = omega (arith, c .before .before .before .loop .inv .marks-sized (omega arith), c .before .slot .ensures)
+handle-of-requires : tie.Need-handle-of-requires Inv-loop μ-loop
+handle-of-requires c κs = search needs
 
 mul-out : tie.Need-mul-out Inv-loop μ-loop
 mul-out c = search needs
-
-shared-slice-read-out : tie.Need-shared-slice-read-out Inv-loop μ-loop
-shared-slice-read-out c = omega (arith, c .before .before .before .before .before .loop .inv .handles-sized (omega arith), c .before .before .before .slot .ensures)
-
-mul-out-2 : tie.Need-mul-out-2 Inv-loop μ-loop
-mul-out-2 c = search needs
 
 slice-write-out : tie.Need-slice-write-out Inv-loop μ-loop
 slice-write-out c = search needs
@@ -69,11 +65,11 @@ loop-less c = search needs
 
 loop-again : tie.Need-loop-again Inv-loop μ-loop
 loop-again c =
-    let l = c .before .before .before .before .before .loop in
-    let at-slot = c .before .before .before .slot .ensures in
+    let place = c .before .before in
+    let keeps = place .before .before .loop .inv in
     ⊎-elim
-    (λ w. rw (w .2, w .3) (lays-waits (l .inv) (omega arith) at-slot (c .forward .ensures) (w .0 .taken)))
-    (λ w. rw (w .1, w .2) (lays-missing (l .inv) (omega arith) at-slot (c .forward .ensures) (w .0 .left)))
+    (λ w. rw (w .2, w .3) (lays-waits keeps (omega arith) (c .forward .ensures) (sym (place .is-missing .ensures) ∙ not-true _ (w .0 .taken)) (w .1 .ensures)))
+    (λ w. rw (w .1, w .2) (lays-missing keeps (omega arith) (c .forward .ensures) (sym (place .is-missing .ensures) ∙ not-false _ (w .0 .left))))
     (c .before .if1 .came)
 
 same-length : tie.Need-same-length Inv-loop μ-loop
@@ -88,14 +84,12 @@ hand-spec =
     (tie.spec
     Inv-loop
     μ-loop
-    is-whole-requires
+    is-place-requires
     all-or-none-requires
     loop-holds
-    slot-requires
-    shared-slice-read-if1
+    is-missing-requires
+    handle-of-requires
     mul-out
-    shared-slice-read-out
-    mul-out-2
     slice-write-out
     add-to
     forward-requires

@@ -1,4 +1,5 @@
 -- `replay::cells` is safe and ends: there are 32 cells at most.
+use Rattle.larq.specs.Channel.{window}
 use Prim.Native.Nat.{_-_}
 use borrow.Author.Needs.{needs}
 use Rattle.replay.proofs.channels.cells.Statement.{statement}
@@ -8,7 +9,7 @@ abbrev Inv-loop : tie.InvT-loop
 Inv-loop line₀ start oldest span waits values at₀ i₀ number₀ line at i number = Unit {0}
 
 abbrev μ-loop : tie.MeasureT-loop
-μ-loop line₀ start oldest span waits values at₀ i₀ number₀ line at i number = 32 - i
+μ-loop line₀ start oldest span waits values at₀ i₀ number₀ line at i number = window - i
 
 slice-aggregate-word : tie.Need-slice-aggregate-word Inv-loop μ-loop
 slice-aggregate-word c = search needs

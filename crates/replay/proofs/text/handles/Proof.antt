@@ -1,4 +1,5 @@
 -- `replay::handles` is safe and ends: a list has 32 entries at most.
+use Rattle.larq.specs.Channel.{window}
 use Prim.Native.Nat.{_-_}
 use borrow.Author.Needs.{needs}
 use Rattle.replay.proofs.text.handles.Statement.{statement}
@@ -8,7 +9,7 @@ abbrev Inv-loop : tie.InvT-loop
 Inv-loop line₀ start name all count at₀ i₀ line at i = Unit {0}
 
 abbrev μ-loop : tie.MeasureT-loop
-μ-loop line₀ start name all count at₀ i₀ line at i = 32 - i
+μ-loop line₀ start name all count at₀ i₀ line at i = window - i
 
 word-requires : tie.Need-word-requires Inv-loop μ-loop
 word-requires c κs = search needs

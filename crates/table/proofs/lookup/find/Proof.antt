@@ -4,7 +4,7 @@ use mathlib.Core.Path.{_≡_, sym, _∙_}
 use native.Mathlib.Omega.{arith}
 use borrow.Author.Needs.{needs}
 use denote.Ref.{now}
-use Rattle.table.specs.First.{firstPlace, hasWord}
+use Rattle.table.specs.First.{firstPlace, hasWord, places}
 use Rattle.table.specs.declared.lookup.Found.the-variants.{At}
 use Rattle.table.proofs.Walking.{unknown-source, inside, its-first, a-later-one}
 use Rattle.table.proofs.lookup.find.Statement.{statement}
@@ -28,7 +28,7 @@ there : (c : tie.After-known-told) → let a = c .before .before .before .before
     firstPlace (hasWord (now (a .keys)) 1 (a .second)) ≡ At (c .before .i .given .0 .0)
 there c = sym (c .before .before .before .first-with .ensures) ∙ c .before .i .given .1
 
-low : (c : tie.After-known-told) → c .before .i .given .0 .0 < 64
+low : (c : tie.After-known-told) → c .before .i .given .0 .0 < places
 low c =
     let a = c .before .before .before .before .before .args in
     inside (now (a .keys)) (a .first) (a .second) (c .before .i .given .0 .0) (there c)

@@ -1,6 +1,7 @@
 -- `first_with` meets its contract: at each turn the places from the one with j words before it hold the first that has the word, if one does.
 use Prim.Native.Nat.{_-_}
 use borrow.Author.Needs.{needs}
+use Rattle.table.specs.Table.{tableKeys}
 use Rattle.table.proofs.Walking.{Walked, begins, goes-on, ends, found}
 use Rattle.table.proofs.lookup.first_with.Statement.{statement}
 use Rattle.table.proofs.lookup.first_with.Tie as tie
@@ -9,7 +10,7 @@ abbrev Inv-loop : tie.InvT-loop
 Inv-loop keys which word j₀ j = Walked keys which word j
 
 abbrev μ-loop : tie.MeasureT-loop
-μ-loop keys which word j₀ j = 128 - j
+μ-loop keys which word j₀ j = tableKeys - j
 
 loop-holds : tie.Need-loop-holds Inv-loop μ-loop
 loop-holds c = begins _ _ _

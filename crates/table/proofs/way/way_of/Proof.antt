@@ -1,4 +1,4 @@
--- `way_of` meets its contract: a number from `early-refusal` decides; else the keys have their 128 words and the lookup decides.
+-- `way_of` meets its contract: a number from `early-refusal` decides; else the keys are as long as they should be, and the lookup decides.
 use mathlib.Core.Path.{_≡_, ap, sym, _∙_}
 use borrow.Author.Needs.{needs}
 use denote.Ref.{now}

@@ -1,6 +1,7 @@
 -- `look` meets its contract: by the way that `way_of` gives it refuses, or looks at the parts of the channel's place (Viewing).
 use native.Mathlib.Omega.{arith}
 use denote.Ref.{now}
+use Rattle.slots.specs.Slots.{slots, placeWords}
 use Rattle.table.specs.Key.{keyOf}
 use Rattle.table.proofs.Parts.{length-lent}
 use Rattle.table_calls.proofs.Viewing.{wayTo, Goes, goes, turned-looked, known-looked}
@@ -93,7 +94,7 @@ look-at-requires c κs =
     let a = at .before .before .before .before .before .before .before .before .before .before .before .before .args in
     let i = at .before .way .given .0 .0 in
     let g = going at in (
-      (length-lent 35 i (now (a .words)) (omega (arith, g)), length-lent 32 i (now (a .handles)) (omega (arith, g)), length-lent 32 i (now (a .marks)) (omega (arith, g))),
+      (length-lent placeWords i (now (a .words)) (omega (arith, g)), length-lent slots i (now (a .marks)) (omega (arith, g))),
       (g .marks-room, g .values-room),
     )
 

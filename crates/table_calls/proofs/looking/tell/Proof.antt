@@ -1,16 +1,21 @@
 -- `tell` meets its contract: at each turn both buffers still lack the cells from here on (Telling, `Tells`).
 use mathlib.Core.Path.{_∙_}
-use borrow.Author.Needs.{needs}
 use denote.Ref.{now}
+use Rattle.slots.specs.Slots.{slotOf}
 use Rattle.record.specs.Place.{cellAt}
 use Rattle.table_calls.specs.Look.{cellMark, cellValue}
 use Rattle.table_calls.proofs.Telling.{Tells, tells-start, tells-more, tells-end, mark-alone}
+use borrow.Author.Needs.{needs}
 use Rattle.table_calls.proofs.looking.tell.Statement.{statement}
 use Rattle.table_calls.proofs.looking.tell.Tie as tie
+use Rattle.table_calls.proofs.looking.tell.Reads as reads
+use Rattle.table_calls.proofs.looking.tell.Lts as lts
+use Rattle.ring.proofs.Seq.forward.Reads as forward-reads
+use Rattle.table_calls.proofs.looking.mark_of.Reads as mark-of-reads
+use Rattle.table_calls.proofs.looking.value_of.Reads as value-of-reads
 
 abbrev Inv-loop : tie.InvT-loop
-Inv-loop words handles marks n waits₀ values₀ i₀ left₀ to₀ waits values i left to =
-    Tells cellMark (cellAt words handles marks) (i₀ .0) n waits₀ waits (i .0) left to × Tells cellValue (cellAt words handles marks) (i₀ .0) n values₀ values (i .0) left to
+Inv-loop words handles marks n waits₀ values₀ i₀ left₀ to₀ waits values i left to = Tells cellMark (cellAt words handles marks) (i₀ .0) n waits₀ waits (i .0) left to × Tells cellValue (cellAt words handles marks) (i₀ .0) n values₀ values (i .0) left to
 
 abbrev μ-loop : tie.MeasureT-loop
 μ-loop words handles marks n waits₀ values₀ i₀ left₀ to₀ waits values i left to = left
@@ -18,17 +23,14 @@ abbrev μ-loop : tie.MeasureT-loop
 loop-holds : tie.Need-loop-holds Inv-loop μ-loop
 loop-holds c = (tells-start _ _ _ _ _, tells-start _ _ _ _ _)
 
-slot-requires : tie.Need-slot-requires Inv-loop μ-loop
-slot-requires c κs = search needs
-
-mark-at-requires : tie.Need-mark-at-requires Inv-loop μ-loop
-mark-at-requires c κs = search needs
+mark-of-requires : tie.Need-mark-of-requires Inv-loop μ-loop
+mark-of-requires c κs = search needs
 
 slice-write-waits : tie.Need-slice-write-waits Inv-loop μ-loop
 slice-write-waits c = search needs
 
-value-at-requires : tie.Need-value-at-requires Inv-loop μ-loop
-value-at-requires c κs = search needs
+value-of-requires : tie.Need-value-of-requires Inv-loop μ-loop
+value-of-requires c κs = search needs
 
 mul-values : tie.Need-mul-values Inv-loop μ-loop
 mul-values c = search needs
@@ -50,12 +52,12 @@ loop-less c = search needs
 
 loop-again : tie.Need-loop-again Inv-loop μ-loop
 loop-again c =
-    let l = c .before .before .before .before .before .loop in
-    let a = c .before .before .before .before .before .before .before .before .before .before .before .args in
-    let taken = c .before .before .before .before .loop-test .taken in
-    let at = c .before .before .before .slot in (
-      tells-more (l .inv .0) _ _ _ taken (at .ensures) (c .before .before .mark-at .ensures ∙ mark-alone (now (a .words)) (now (a .handles)) (now (a .marks)) (at .result)) (c .forward .ensures),
-      tells-more (l .inv .1) _ _ _ taken (at .ensures) (c .before .value-at .ensures) (c .forward .ensures),
+    let turn = c .before .before .before in
+    let l = turn .before .loop in
+    let a = turn .before .before .before .before .before .before .before .args in (
+      tells-more (l .inv .0) _ _ (turn .loop-test .taken) (c .before .before .mark-of .ensures ∙ mark-alone (now (a .words)) (now (a .handles)) (now (a .marks)) (slotOf (l .i .0)))
+          (c .forward .ensures),
+      tells-more (l .inv .1) _ _ (turn .loop-test .taken) (c .before .value-of .ensures) (c .forward .ensures),
     )
 
 same-length : tie.Need-same-length Inv-loop μ-loop
@@ -74,10 +76,9 @@ tell-spec =
     Inv-loop
     μ-loop
     loop-holds
-    slot-requires
-    mark-at-requires
+    mark-of-requires
     slice-write-waits
-    value-at-requires
+    value-of-requires
     mul-values
     slice-write-values
     add-to

@@ -1,13 +1,16 @@
--- `open_at` meets its contract: it makes the stores that the definitions name, and M is the ring's next number.
-use mathlib.Core.Path.{refl}
+-- `open_at` meets its contract: it stores the key, and the channel begins in the place's own words (Opening of table_calls).
 use native.Mathlib.Omega.{arith}
-use borrow.Author.Needs.{needs}
 use lib.ListN.{length-set}
+use Rattle.table_calls.proofs.Opening.{opened-part}
+use borrow.Author.Needs.{needs}
 use Rattle.table_frame.proofs.opening.open_at.Statement.{statement}
 use Rattle.table_frame.proofs.opening.open_at.Tie as tie
+use Rattle.table_frame.proofs.opening.open_at.Reads as reads
+use Rattle.table_frame.proofs.opening.open_at.Lts as lts
+use Rattle.place.proofs.begun.Reads as begun-reads
 
-forward-requires : tie.Need-forward-requires
-forward-requires c κs = search needs
+mul-from : tie.Need-mul-from
+mul-from c = search needs
 
 mul-keys : tie.Need-mul-keys
 mul-keys c = search needs
@@ -30,44 +33,23 @@ mul-keys-4 c = search needs
 slice-write-keys-2 : tie.Need-slice-write-keys-2
 slice-write-keys-2 c = simp length-set (omega arith)
 
-mul-words : tie.Need-mul-words
-mul-words c = search needs
+add-begun : tie.Need-add-begun
+add-begun c = search needs
 
-mul-words-2 : tie.Need-mul-words-2
-mul-words-2 c = search needs
+mul-begun : tie.Need-mul-begun
+mul-begun c = search needs
 
-slice-write-words : tie.Need-slice-write-words
-slice-write-words c = search needs
+sub-begun : tie.Need-sub-begun
+sub-begun c = search needs
 
-cast-words : tie.Need-cast-words
-cast-words c = search needs
+part-begun-start : tie.Need-part-begun-start
+part-begun-start c = search needs
 
-mul-words-3 : tie.Need-mul-words-3
-mul-words-3 c = search needs
+part-begun-end : tie.Need-part-begun-end
+part-begun-end c = search needs
 
-add-words : tie.Need-add-words
-add-words c = search needs
-
-mul-words-4 : tie.Need-mul-words-4
-mul-words-4 c = search needs
-
-slice-write-words-2 : tie.Need-slice-write-words-2
-slice-write-words-2 c = simp length-set (omega arith)
-
-mul-words-5 : tie.Need-mul-words-5
-mul-words-5 c = search needs
-
-add-words-2 : tie.Need-add-words-2
-add-words-2 c = search needs
-
-mul-words-6 : tie.Need-mul-words-6
-mul-words-6 c = search needs
-
-slice-write-words-3 : tie.Need-slice-write-words-3
-slice-write-words-3 c = simp length-set (omega arith)
-
-slice-write-up : tie.Need-slice-write-up
-slice-write-up c = search needs
+begun-requires : tie.Need-begun-requires
+begun-requires c κs = search needs
 
 same-length : tie.Need-same-length
 same-length c = search needs
@@ -80,18 +62,16 @@ same-length-3 c = search needs
 
 returns : tie.Need-returns
 returns c =
-    record {
-      key = refl;
-      head = rw (c .before .forward .ensures);
-      frame = refl;
-      answer = record { number = refl; up = refl; returned = refl; nack = refl; lost = refl };
-    }
+    let begins = c .before .before .before .before in
+    let start = begins .before .before .before .before .before .before in
+    let a = start .args in
+    opened-part (a .keys .now) (a .i) (a .first) (a .second) (start .pre .1) (start .pre .3) (begins .begun .kept .0) (begins .begun .ensures)
 
 pub open-at-spec : {M : Type 1} → statement M
 open-at-spec =
     tie.close
     (tie.spec
-    forward-requires
+    mul-from
     mul-keys
     mul-keys-2
     slice-write-keys
@@ -99,19 +79,12 @@ open-at-spec =
     add-keys
     mul-keys-4
     slice-write-keys-2
-    mul-words
-    mul-words-2
-    slice-write-words
-    cast-words
-    mul-words-3
-    add-words
-    mul-words-4
-    slice-write-words-2
-    mul-words-5
-    add-words-2
-    mul-words-6
-    slice-write-words-3
-    slice-write-up
+    add-begun
+    mul-begun
+    sub-begun
+    part-begun-start
+    part-begun-end
+    begun-requires
     same-length
     same-length-2
     same-length-3

@@ -1,0 +1,10 @@
+-- `has_room` meets its contract, buffer by buffer.
+use mathlib.Core.Path.{refl}
+use Rattle.table.proofs.way.has_room.Statement.{statement}
+use Rattle.table.proofs.way.has_room.Tie as tie
+
+returns : tie.Need-returns
+returns c = refl
+
+pub has-room-spec : {M : Type 1} → statement M
+has-room-spec = tie.close (tie.spec returns)
