@@ -22,15 +22,15 @@ use Rattle.place_frame.proofs.act.sent_back.Reads as sent-back-reads
 use Rattle.judging.proofs.spot_of.Reads as spot-of-reads
 
 -- from where the number was looked up back to the entry
-abbrev at-entry : tie.After-spot-of → tie.Start
-at-entry c = c .before .before .before .before .before .before .before .before
+abbrev start : tie.After-spot-of → tie.Start
+start c = c .before .before .before .before .before .before .before .before
 
 lies : (c : tie.After-spot-of) (x : Spot) → c .spot-of .result ≡ x
-    → LiesAt (at-entry c .args .r) (at-entry c .args .marks .now) (at-entry c .args .s .0) x
-lies c x e = subst (LiesAt (at-entry c .args .r) (at-entry c .args .marks .now) (at-entry c .args .s .0)) e (c .spot-of .ensures)
+    → LiesAt (start c .args .r) (start c .args .marks .now) (start c .args .s .0) x
+lies c x e = subst (LiesAt (start c .args .r) (start c .args .marks .now) (start c .args .s .0)) e (c .spot-of .ensures)
 
 ahead-by : (c : tie.After-spot-of) (d : ℕ) → c .spot-of .result ≡ Spot.Ahead d
-    → seen (reach window) (at-entry c .args .r .current .0) (at-entry c .args .s .0) ≡ Ahead d
+    → seen (reach window) (start c .args .r .current .0) (start c .args .s .0) ≡ Ahead d
 ahead-by c d e = lies c (Spot.Ahead d) e .is
 
 spot-of-requires : tie.Need-spot-of-requires
@@ -41,16 +41,18 @@ enum-known-d c = search needs
 
 sub-ahead : tie.Need-sub-ahead
 sub-ahead c =
-    let l = c .before .before .before .before .before .before .before .before in
-    let a = at-entry l .args in
-    ahead-some (a .r .current .0) (a .s .0) _ (ahead-by l _ (c .before .before .before .before .before .before .d .given .1))
+    let told = c .before .before .before .before .before .before in
+    let looked = told .before .before in
+    let a = start looked .args in
+    ahead-some (a .r .current .0) (a .s .0) _ (ahead-by looked _ (told .d .given .1))
 
 ahead-requires : tie.Need-ahead-requires
 ahead-requires c κs =
-    let l = c .before .before .before .before .before .before .before .before in
-    let a = at-entry l .args in
-    let p = at-entry l .pre in
-    (p .0, ((p .1 .0, p .1 .2), ahead-frame (a .r .current .0) (a .s .0) _ (ahead-by l _ (c .before .before .before .before .before .before .d .given .1)) (a .handle)))
+    let told = c .before .before .before .before .before .before in
+    let looked = told .before .before in
+    let a = start looked .args in
+    let p = start looked .pre in
+    (p .0, ((p .1 .0, p .1 .2), ahead-frame (a .r .current .0) (a .s .0) _ (ahead-by looked _ (told .d .given .1)) (a .handle)))
 
 counted-requires : tie.Need-counted-requires
 counted-requires c κs = search needs
@@ -66,9 +68,10 @@ enum-told-2 c = search needs
 
 filled-requires : tie.Need-filled-requires
 filled-requires c κs =
-    let l = c .before .before .before .before .before .before in
-    let p = at-entry l .pre in
-    ((p .0 .0, lies l Missing (c .before .before .before .before .enum-told2 .given .1)), p .1 .0)
+    let told = c .before .before .before .before in
+    let looked = told .before .before in
+    let p = start looked .pre in
+    ((p .0 .0, lies looked Missing (told .enum-told2 .given .1)), p .1 .0)
 
 counted-requires-2 : tie.Need-counted-requires-2
 counted-requires-2 c κs = search needs
@@ -102,10 +105,12 @@ same-length-5 c = search needs
 
 returns : tie.Need-returns
 returns c =
-    let l = c .before .before .before .before .before .before .before .before .before .before .before .before .before .before .before .before .before .before .before .before in
-    let a = at-entry l .args in
-    let p = at-entry l .pre in
-    frame-ahead (a .s .0) (a .handle) (a .time) (p .0 .0) (a .returned .now) (ahead-by l _ (c .before .before .before .before .before .before .before .before .before .before .before .before .before .before .before .before .before .before .d .given .1)) (c .before .before .before .before .before .before .before .before .before .before .before .ahead .ensures) (c .counted .ensures)
+    let done = c .before .before .before .before .before .before .before .before .before .before .before in
+    let told = done .before .before .before .before .before .before .before in
+    let looked = told .before .before in
+    let a = start looked .args in
+    let p = start looked .pre in
+    frame-ahead (a .s .0) (a .handle) (a .time) (p .0 .0) (a .returned .now) (ahead-by looked _ (told .d .given .1)) (done .ahead .ensures) (c .counted .ensures)
 
 same-length-6 : tie.Need-same-length-6
 same-length-6 c = search needs
@@ -118,11 +123,13 @@ same-length-8 c = search needs
 
 returns-2 : tie.Need-returns-2
 returns-2 c =
-    let l = c .before .before .before .before .before .before .before .before .before in
-    let a = at-entry l .args in
-    let p = at-entry l .pre in
-    let e = c .before .before .before .before .begun .ensures in
-    frame-next (a .s .0) (a .handle) (a .time) (p .0 .0) (a .up .now) (a .returned .now) (a .nack .now) (p .0 .1) (lies l Next (c .before .before .before .before .before .before .before .enum-told .given .1))
+    let done = c .before .before .before .before in
+    let told = done .before .before .before in
+    let looked = told .before .before in
+    let a = start looked .args in
+    let p = start looked .pre in
+    let e = done .begun .ensures in
+    frame-next (a .s .0) (a .handle) (a .time) (p .0 .0) (a .up .now) (a .returned .now) (a .nack .now) (p .0 .1) (lies looked Next (told .enum-told .given .1))
     (omega (arith, p .1 .0)) (e .head) (e .frame) (e .answer)
 
 same-length-9 : tie.Need-same-length-9
@@ -139,11 +146,12 @@ same-length-12 c = search needs
 
 returns-3 : tie.Need-returns-3
 returns-3 c =
-    let l = c .before .before .before .before .before .before .before .before .before .before .before .before .before .before .before .before in
-    let a = at-entry l .args in
-    let p = at-entry l .pre in
-    frame-missing (a .s .0) (a .handle) (a .time) (p .0 .0) (a .returned .now) (a .nack .now) (lies l Missing (c .before .before .before .before .before .before .before .before .before .before .before .before .before .before .enum-told2 .given .1))
-    (c .before .before .before .before .before .before .before .before .before .filled .ensures) (c .counted2 .ensures)
+    let done = c .before .before .before .before .before .before .before .before .before in
+    let told = done .before .before .before .before .before in
+    let looked = told .before .before in
+    let a = start looked .args in
+    let p = start looked .pre in
+    frame-missing (a .s .0) (a .handle) (a .time) (p .0 .0) (a .returned .now) (a .nack .now) (lies looked Missing (told .enum-told2 .given .1)) (done .filled .ensures) (c .counted2 .ensures)
 
 same-length-13 : tie.Need-same-length-13
 same-length-13 c = search needs
@@ -156,11 +164,13 @@ same-length-15 c = search needs
 
 returns-4 : tie.Need-returns-4
 returns-4 c =
-    let l = c .before .before .before .before .before .before .before .before .before in
-    let a = at-entry l .args in
-    let p = at-entry l .pre in
-    let e = c .before .before .before .before .sent-back .ensures in
-    frame-unwanted (a .s .0) (a .handle) (a .time) (p .0 .0) (a .up .now) (a .returned .now) (a .nack .now) (lies l Unwanted (c .before .before .before .before .before .before .before .enum-told3 .given .1))
+    let done = c .before .before .before .before in
+    let told = done .before .before .before in
+    let looked = told .before .before in
+    let a = start looked .args in
+    let p = start looked .pre in
+    let e = done .sent-back .ensures in
+    frame-unwanted (a .s .0) (a .handle) (a .time) (p .0 .0) (a .up .now) (a .returned .now) (a .nack .now) (lies looked Unwanted (told .enum-told3 .given .1))
     (omega (arith, p .1 .1)) (e .0) (e .1) (e .2)
 
 same-length-16 : tie.Need-same-length-16
@@ -180,10 +190,12 @@ same-length-20 c = search needs
 
 returns-5 : tie.Need-returns-5
 returns-5 c =
-    let l = c .before .before .before .before .before .before .before .before .before .before .before .before .before .before in
-    let a = at-entry l .args in
-    let p = at-entry l .pre in
-    frame-far (a .s .0) (a .handle) (a .time) (p .0 .0) (a .nack .now) (lies l Far (c .before .before .before .before .before .before .before .before .before .before .before .before .enum-told4 .given .1)) (c .before .before .before .before .before .before .restarted .ensures)
+    let done = c .before .before .before .before .before .before in
+    let told = done .before .before .before .before .before .before in
+    let looked = told .before .before in
+    let a = start looked .args in
+    let p = start looked .pre in
+    frame-far (a .s .0) (a .handle) (a .time) (p .0 .0) (a .nack .now) (lies looked Far (told .enum-told4 .given .1)) (done .restarted .ensures)
 
 pub arrive-spec : {M : Type 1} → statement M
 arrive-spec =

@@ -15,6 +15,10 @@ use Rattle.place_frame.proofs.arrive.Reads as arrive-reads
 use Rattle.judging.proofs.judge.Reads as judge-reads
 use Rattle.place.proofs.refused.Reads as refused-reads
 
+-- from where the call is judged back to the entry
+abbrev start : tie.After-judge → tie.Start
+start c = c .before .before .before .before .before .before .before .before .before
+
 -- what the call was lent
 abbrev lent : tie.Start → Parts
 lent c = parts (c .args .words .now) (c .args .handles .now) (c .args .marks .now)
@@ -35,13 +39,13 @@ enum-known-r : tie.Need-enum-known-r
 enum-known-r c = search needs
 
 -- past the numbers that refuse: the record at hand, and the room that is lent
-abbrev start : tie.After-known-told2 → tie.Start
-start c = c .before .before .before .before .before .before .before .before .before .before .before .before
+abbrev judged : tie.After-r → tie.After-judge
+judged c = c .before .before
 
-opened : (c : tie.After-known-told2) → Opened (lent (start c)) (lends (start c)) (start c .args .number) (start c .args .time) (c .before .r .given .0 .0)
+opened : (c : tie.After-r) → let e = start (judged c) in Opened (lent e) (lends e) (e .args .number) (e .args .time) (c .r .given .0 .0)
 opened c =
-    let e = start c in
-    opened-by (lent e) (lends e) (e .args .number) (e .args .time) (c .before .before .before .judge .ensures) (c .before .r .given .1)
+    let e = start (judged c) in
+    opened-by (lent e) (lends e) (e .args .number) (e .args .time) (judged c .judge .ensures) (c .r .given .1)
 
 sub-arrive : tie.Need-sub-arrive
 sub-arrive c = search needs
@@ -50,7 +54,7 @@ part-arrive-start : tie.Need-part-arrive-start
 part-arrive-start c = search needs
 
 part-arrive-end : tie.Need-part-arrive-end
-part-arrive-end c = enough (opened (c .before .before .before)) .up-room
+part-arrive-end c = enough (opened (c .before .before .before .before)) .up-room
 
 sub-arrive-2 : tie.Need-sub-arrive-2
 sub-arrive-2 c = search needs
@@ -59,12 +63,12 @@ part-arrive-start-2 : tie.Need-part-arrive-start-2
 part-arrive-start-2 c = search needs
 
 part-arrive-end-2 : tie.Need-part-arrive-end-2
-part-arrive-end-2 c = enough (opened (c .before .before .before .before)) .returned-room
+part-arrive-end-2 c = enough (opened (c .before .before .before .before .before)) .returned-room
 
 arrive-requires : tie.Need-arrive-requires
 arrive-requires c κs =
-    let at = c .before .before .before .before .before .before in
-    let e = start at in
+    let at = c .before .before .before .before .before .before .before in
+    let e = start (judged at) in
     let room = enough (opened at) in
     ((ready (opened at), in-ring (opened at)), (lent-room (lends e .up) (room .up-room), lent-room (lends e .returned) (room .returned-room), room .nack-room))
 
@@ -76,8 +80,10 @@ same-length-2 c = search needs
 
 returns : tie.Need-returns
 returns c =
-    let e = c .before .before .before .before .before .before .before .before .before .before .before .before .before in
-    called-stopped (frame (e .args .number) (e .args .handle)) refl (stopped-by (lent e) (lends e) (e .args .number) (e .args .time) (c .before .before .before .before .judge .ensures) (c .before .before .n .given .1)) (c .refused .ensures)
+    let stopped = c .before .before in
+    let judged = stopped .before .before in
+    let e = start judged in
+    called-stopped (frame (e .args .number) (e .args .handle)) refl (stopped-by (lent e) (lends e) (e .args .number) (e .args .time) (judged .judge .ensures) (stopped .n .given .1)) (c .refused .ensures)
 
 same-length-3 : tie.Need-same-length-3
 same-length-3 c = search needs
@@ -99,10 +105,11 @@ same-length-8 c = search needs
 
 returns-2 : tie.Need-returns-2
 returns-2 c =
-    let at = c .before .before .before .before .before .before .before .before .before .before .before .before .before .before .before .before .before .before .before in
+    let arrived = c .before .before .before .before .before .before .before .before .before .before .before .before in
+    let at = arrived .before .before .before .before .before .before .before .before in
     let room = enough (opened at) in
-    let call = c .before .before .before .before .before .before .before .before .before .before .before .before .arrive in
-    called-frame (start at .args .handle) (opened at)
+    let call = arrived .arrive in
+    called-frame (start (judged at) .args .handle) (opened at)
     (front-did (room .up-room) (room .returned-room) (call .kept .1 .1 .1 .1 .0) (call .kept .1 .1 .1 .1 .1 .0) (call .ensures))
 
 pub data-spec : {M : Type 1} → statement M

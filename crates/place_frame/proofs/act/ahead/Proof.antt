@@ -10,16 +10,20 @@ use Rattle.place_frame.proofs.act.brought.Reads as brought-reads
 use Rattle.stepping.proofs.widened.Reads as widened-reads
 
 -- from where C has come to s back to the entry
-abbrev at-entry : tie.After-widened → tie.Start
-at-entry c = c .before .before .before .before .before .before .before .before .before .before .before
+abbrev start : tie.After-widened → tie.Start
+start c = c .before .before .before .before .before .before .before .before .before .before .before
 
 widened-requires : tie.Need-widened-requires
 widened-requires c κs = search needs
 
+-- from where the record is taken from what has widened back to there
+abbrev widened : tie.After-g → tie.After-widened
+widened c = c .before .before .before .before .before .before .before .before .before
+
 brought-requires : tie.Need-brought-requires
 brought-requires c κs =
-    let w = c .before .before .before .before .before .before .before .before .before .before .before .before .before in
-    let p = at-entry w .pre in
+    let w = widened (c .before .before .before .before) in
+    let p = start w .pre in
     let wide = stepped (p .0 .0) (p .1 .1) (p .1 .0 .0) (p .1 .0 .1) (w .widened .ensures) in (
       widened-sized (p .0 .0) (p .0 .1) (p .1 .1) (p .1 .0 .0) (p .1 .0 .1) wide,
       settle-room (p .0 .0) (p .0 .1) (p .1 .1) (p .1 .0 .0) (p .1 .0 .1) wide refl refl,
@@ -42,9 +46,10 @@ same-length-5 c = search needs
 
 returns : tie.Need-returns
 returns c =
-    let e = c .before .before .before .before .before .before .before .before .brought .ensures in
-    let w = c .before .before .before .before .before .before .before .before .before .before .before .before .before .before .before .before .before .before .before .before .before .before in
-    let p = at-entry w .pre in
+    let settled = c .before .before .before .before .before .before .before .before in
+    let w = widened (settled .before .before .before .before .before) in
+    let p = start w .pre in
+    let e = settled .brought .ensures in
     let wide = stepped (p .0 .0) (p .1 .1) (p .1 .0 .0) (p .1 .0 .1) (w .widened .ensures) in
     ahead-did (p .0 .0) (p .0 .1) (p .1 .1) (p .1 .0 .0) (p .1 .0 .1) wide (e .0) (e .1) (e .2)
 

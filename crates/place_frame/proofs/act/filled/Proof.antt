@@ -12,11 +12,16 @@ use Rattle.record.proofs.Record.arrived.Reads as arrived-reads
 arrived-requires : tie.Need-arrived-requires
 arrived-requires c κs = search needs
 
+-- from where the record takes the time back to the entry
+abbrev start : tie.After-arrived → tie.Start
+start c = c .before .before .before .before .before
+
 brought-requires : tie.Need-brought-requires
 brought-requires c κs =
-    let a = c .before .before .before .before .before .before .before .before .before .args in
-    let p = c .before .before .before .before .before .before .before .before .before .pre in
-    let to = c .before .before .before .before .arrived .ensures in
+    let arrived = c .before .before .before .before in
+    let a = start arrived .args in
+    let p = start arrived .pre in
+    let to = arrived .arrived .ensures in
     (p .0 .0 .sized, filled-room (p .0 .0) (a .s .0) (a .handle) (a .time) (p .0 .1) refl refl (to .0) (to .1) (to .2) (a .up .now) (p .1))
 
 same-length : tie.Need-same-length
@@ -33,10 +38,12 @@ same-length-4 c = search needs
 
 returns : tie.Need-returns
 returns c =
-    let a = c .before .before .before .before .before .before .before .before .before .before .before .before .before .before .before .before .before .before .args in
-    let p = c .before .before .before .before .before .before .before .before .before .before .before .before .before .before .before .before .before .before .pre in
-    let e = c .before .before .before .before .before .before .before .before .brought .ensures in
-    let to = c .before .before .before .before .before .before .before .before .before .before .before .before .before .arrived .ensures in
+    let settled = c .before .before .before .before .before .before .before .before in
+    let arrived = settled .before .before .before .before .before in
+    let a = start arrived .args in
+    let p = start arrived .pre in
+    let e = settled .brought .ensures in
+    let to = arrived .arrived .ensures in
     filled-did (p .0 .0) (a .s .0) (a .handle) (a .time) (p .0 .1) (e .0) (e .1) (to .0) (to .1) (to .2) (e .2) (p .1)
 
 pub filled-spec : {M : Type 1} → statement M

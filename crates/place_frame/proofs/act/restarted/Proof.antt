@@ -29,9 +29,12 @@ same-length-3 c = search needs
 
 returns : tie.Need-returns
 returns c =
-    let p = c .before .before .before .before .before .before .before .before .before .before .before .before .before .before .before .before .before .pre in
-    let up = c .before .before .before .before .begun .ensures in
-    restarted-did (p .0 .0) (c .before .before .before .before .before .before .before .before .before .before .before .span .ensures) (c .before .before .before .before .before .before .before .before .before .hand .ensures) (p .1 .0) (p .1 .1) (up .head) (up .frame) (up .answer)
+    let begun = c .before .before .before .before in
+    let emptied = begun .before .before .before .before .before in
+    let spanned = emptied .before .before in
+    let p = spanned .before .before .before .before .before .before .pre in
+    let up = begun .begun .ensures in
+    restarted-did (p .0 .0) (spanned .span .ensures) (emptied .hand .ensures) (p .1 .0) (p .1 .1) (up .head) (up .frame) (up .answer)
 
 pub restarted-spec : {M : Type 1} → statement M
 restarted-spec =
