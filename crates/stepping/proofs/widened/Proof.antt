@@ -18,20 +18,20 @@ use Rattle.stepping.proofs.miss.Reads as miss-reads
 use Rattle.record.proofs.hand.Reads as hand-reads
 
 -- from where the window has grown back to the entry
-abbrev at-entry : tie.After-grown → tie.Start
-at-entry c = c .before .before .before .before .before .before .before .before
+abbrev start : tie.After-grown → tie.Start
+start c = c .before .before .before .before .before .before .before .before
 
 can : (c : tie.After-grown)
-    → canStep (at-entry c .args .r) (at-entry c .args .s .0) (at-entry c .args .made)
-    (at-entry c .args .words .now) (at-entry c .args .handles .now) (at-entry c .args .marks .now) (at-entry c .args .up .now) (at-entry c .args .nack .now) ≡ true
+    → canStep (start c .args .r) (start c .args .s .0) (start c .args .made)
+    (start c .args .words .now) (start c .args .handles .now) (start c .args .marks .now) (start c .args .up .now) (start c .args .nack .now) ≡ true
 can c = sym (c .before .before .can-widen .ensures) ∙ not-false _ (c .before .if1 .left)
 
 fits : (c : tie.After-grown)
-    → Fits (at-entry c .args .r) (at-entry c .args .s .0) (at-entry c .args .made)
-    (at-entry c .args .words .now) (at-entry c .args .handles .now) (at-entry c .args .marks .now) (at-entry c .args .up .now) (at-entry c .args .nack .now)
+    → Fits (start c .args .r) (start c .args .s .0) (start c .args .made)
+    (start c .args .words .now) (start c .args .handles .now) (start c .args .marks .now) (start c .args .up .now) (start c .args .nack .now)
 fits c =
-    fits-of (at-entry c .args .r) (at-entry c .args .s .0) (at-entry c .args .made)
-    (at-entry c .args .words .now) (at-entry c .args .handles .now) (at-entry c .args .marks .now) (at-entry c .args .up .now) (at-entry c .args .nack .now) (can c)
+    fits-of (start c .args .r) (start c .args .s .0) (start c .args .made)
+    (start c .args .words .now) (start c .args .handles .now) (start c .args .marks .now) (start c .args .up .now) (start c .args .nack .now) (can c)
 
 can-widen-requires : tie.Need-can-widen-requires
 can-widen-requires c κs = search needs
@@ -54,15 +54,16 @@ hand-requires c κs = search needs
 
 miss-requires : tie.Need-miss-requires
 miss-requires c κs =
-    let g = c .before .before .before .before .before .before .before .before in
-    let e = fits g .enough in
-    omega (arith, e .nack-room, asked-few (fits g) (g .grown .ensures))
+    let grown = c .before .before .before .before .before .before .before .before in
+    let e = fits grown .enough in
+    omega (arith, e .nack-room, asked-few (fits grown) (grown .grown .ensures))
 
 sub-t15 : tie.Need-sub-t15
 sub-t15 c =
-    let h = c .before .before .before .before .before .before .before .before .before .before .before .before .before in
-    let g = h .before .before .before in
-    handed-few (fits g) (g .grown .ensures) (h .hand .ensures)
+    let missed = c .before .before .before .before .before .before .before in
+    let handed = missed .before .before .before .before .before .before in
+    let grown = handed .before .before .before in
+    handed-few (fits grown) (grown .grown .ensures) (handed .hand .ensures)
 
 same-length : tie.Need-same-length
 same-length c = search needs
@@ -78,18 +79,18 @@ same-length-4 c = search needs
 
 returns-2 : tie.Need-returns-2
 returns-2 c =
-    let m = c .before .before .before .before .before .before .before in
-    let h = c .before .before .before .before .before .before .before .before .before .before .before .before .before in
-    let g = h .before .before .before in
+    let missed = c .before .before .before .before .before .before .before in
+    let handed = missed .before .before .before .before .before .before in
+    let grown = handed .before .before .before in
     record {
       taken = λ _. record {
-        grown = g .grown .ensures;
-        handed = handed-all (fits g) (g .grown .ensures) (h .hand .ensures);
-        missed = m .miss .ensures .1;
-        asked = m .miss .ensures .0;
+        grown = grown .grown .ensures;
+        handed = handed-all (fits grown) (grown .grown .ensures) (handed .hand .ensures);
+        missed = missed .miss .ensures .1;
+        asked = missed .miss .ensures .0;
         lost = refl;
       };
-      left = λ e. not-both _ (can g) e;
+      left = λ e. not-both _ (can grown) e;
     }
 
 pub widened-spec : {M : Type 1} → statement M
