@@ -20,13 +20,21 @@ use Rattle.ring.proofs.Seq.steps.Reads as steps-reads
 use Rattle.place_upkeep.proofs.act.noted.Reads as noted-reads
 use Rattle.place_upkeep.proofs.act.reminded.Reads as reminded-reads
 
-abbrev at-entry : tie.After-steps → tie.Start
-at-entry c = c .before .before .before .before .before .before .before .before .before .before .before .before .before .before .before .before .before
+-- from past the test of a far number back to the entry
+abbrev start : tie.Else1 → tie.Start
+start c = c .before .before .before .before .before .before .before .before .before
+
+-- from where the steps are counted back to past that test
+abbrev near : tie.After-steps → tie.Else1
+near c = c .before .before .before .before .before .before .before .before
 
 -- the number lies ahead, by the steps that were counted
-ahead-by : (c : tie.After-steps) → seen (reach window) (at-entry c .args .r .current .0) (at-entry c .args .s .0) ≡ Ahead (c .steps .result)
+ahead-by : (c : tie.After-steps) → let a = start (near c) .args in seen (reach window) (a .r .current .0) (a .s .0) ≡ Ahead (c .steps .result)
 ahead-by c =
-    seen-ahead (at-entry c .args .r .current .0) (at-entry c .args .s .0) (rw (c .before .before .before .before .before .before .before .is-ahead .ensures, c .before .before .before .before .before .before .before .before .before .before .distance .ensures) at (not-false (c .before .before .before .before .before .before .before .is-ahead .result) (c .before .before .before .before .before .before .if2 .left)))
+    let a = start (near c) .args in
+    let ahead = c .before .before .before .before .before .before in
+    let test = ahead .before .is-ahead in
+    seen-ahead (a .r .current .0) (a .s .0) (rw (test .ensures, near c .before .before .distance .ensures) at (not-false (test .result) (ahead .if2 .left)))
     ∙ ap Ahead (sym (c .steps .ensures))
 
 distance-requires : tie.Need-distance-requires
@@ -56,13 +64,15 @@ same-length c = search needs
 
 returns-2 : tie.Need-returns-2
 returns-2 c =
-    let f = c .before .before .before .before .before .before in
-    let e = f .before .before .before .before .before .before .before .before .before in
+    let behind = c .before .before .before .before in
+    let test = behind .before .is-ahead in
+    let near = behind .before .before in
+    let e = start near in
     let a = e .args in
     let n = c .before .before .noted .ensures in
     reminder-behind (e .pre .0 .0) (a .time) (a .s .0) (a .up .now) (a .nack .now)
-    (seen-behind (a .r .current .0) (a .s .0) (rw (f .before .is-far .ensures, f .before .before .distance .ensures) at (f .if1 .left))
-    (rw (c .before .before .before .before .before .is-ahead .ensures, f .before .before .distance .ensures) at (not-true (c .before .before .before .before .before .is-ahead .result) (c .before .before .before .before .if2 .taken))) .1)
+    (seen-behind (a .r .current .0) (a .s .0) (rw (near .before .is-far .ensures, near .before .before .distance .ensures) at (near .if1 .left))
+    (rw (test .ensures, near .before .before .distance .ensures) at (not-true (test .result) (behind .if2 .taken))) .1)
     (n .0) (n .1)
 
 steps-requires : tie.Need-steps-requires
@@ -70,7 +80,7 @@ steps-requires c κs = search needs
 
 reminded-requires : tie.Need-reminded-requires
 reminded-requires c κs =
-    let e = c .before .before .before .before .before .before .before .before .before .before .before .before .before .before .before .before .before in
+    let e = start (near c) in
     let a = e .args in
     (e .pre .0, (e .pre .1, ahead-reminder (a .r .current .0) (a .s .0) _ (ahead-by c)))
 
@@ -94,9 +104,11 @@ same-length-6 c = search needs
 
 returns-3 : tie.Need-returns-3
 returns-3 c =
-    let e = c .before .before .before .before .before .before .before .before .before .before .before .before .before .before .before .before .before .before .before .before .before .before .before .before .before .before .before in
+    let done = c .before .before .before .before .before .before .before .before .before in
+    let stepped = done .before in
+    let e = start (near stepped) in
     let a = e .args in
-    reminder-ahead (e .pre .0 .0) (a .time) (a .s .0) (ahead-by (c .before .before .before .before .before .before .before .before .before .before)) (c .before .before .before .before .before .before .before .before .before .reminded .ensures) (c .counted .ensures)
+    reminder-ahead (e .pre .0 .0) (a .time) (a .s .0) (ahead-by stepped) (done .reminded .ensures) (c .counted .ensures)
 
 pub remind-spec : {M : Type 1} → statement M
 remind-spec =

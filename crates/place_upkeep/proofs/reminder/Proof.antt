@@ -2,7 +2,7 @@
 use mathlib.Core.Path.{refl}
 use Rattle.larq.specs.Events.{reminder}
 use Rattle.place.specs.Call.{Parts, Buffers, parts, buffers}
-use Rattle.place.proofs.Opening.{stopped-by, opened-by, enough, in-ring, ready}
+use Rattle.place.proofs.Opening.{Opened, stopped-by, opened-by, enough, in-ring, ready}
 use Rattle.place.proofs.Calling.{called-stopped}
 use Rattle.place_upkeep.proofs.Reminders.{called-reminder}
 use borrow.Author.Needs.{needs}
@@ -13,6 +13,10 @@ use Rattle.place_upkeep.proofs.reminder.Lts as lts
 use Rattle.judging.proofs.judge.Reads as judge-reads
 use Rattle.place.proofs.refused.Reads as refused-reads
 use Rattle.place_upkeep.proofs.remind.Reads as remind-reads
+
+-- from where the call is judged back to the entry
+abbrev start : tie.After-judge → tie.Start
+start c = c .before .before .before .before .before .before .before .before .before
 
 -- what the call was lent
 abbrev lent : tie.Start → Parts
@@ -33,12 +37,20 @@ refused-requires c κs = search needs
 enum-known-r : tie.Need-enum-known-r
 enum-known-r c = search needs
 
+-- past the numbers that refuse: the record at hand, and the room that is lent
+abbrev judged : tie.After-r → tie.After-judge
+judged c = c .before .before
+
+opened : (c : tie.After-r) → let e = start (judged c) in Opened (lent e) (lends e) (e .args .number) (e .args .time) (c .r .given .0 .0)
+opened c =
+    let e = start (judged c) in
+    opened-by (lent e) (lends e) (e .args .number) (e .args .time) (judged c .judge .ensures) (c .r .given .1)
+
 remind-requires : tie.Need-remind-requires
 remind-requires c κs =
-    let e = c .before .before .before .before .before .before .before .before .before .before .before .before .before .before .before .before .before in
-    let opened = opened-by (lent e) (lends e) (e .args .number) (e .args .time) (c .before .before .before .before .before .before .before .before .judge .ensures) (c .before .before .before .before .before .before .r .given .1) in
-    let room = enough opened in
-    ((ready opened, in-ring opened), (room .up-room, room .nack-room))
+    let at = opened (c .before .before .before .before .before .before) in
+    let room = enough at in
+    ((ready at, in-ring at), (room .up-room, room .nack-room))
 
 same-length : tie.Need-same-length
 same-length c = search needs
@@ -48,8 +60,10 @@ same-length-2 c = search needs
 
 returns : tie.Need-returns
 returns c =
-    let e = c .before .before .before .before .before .before .before .before .before .before .before .before .before in
-    called-stopped (reminder (e .args .number)) refl (stopped-by (lent e) (lends e) (e .args .number) (e .args .time) (c .before .before .before .before .judge .ensures) (c .before .before .n .given .1)) (c .refused .ensures)
+    let stopped = c .before .before in
+    let judged = stopped .before .before in
+    let e = start judged in
+    called-stopped (reminder (e .args .number)) refl (stopped-by (lent e) (lends e) (e .args .number) (e .args .time) (judged .judge .ensures) (stopped .n .given .1)) (c .refused .ensures)
 
 same-length-3 : tie.Need-same-length-3
 same-length-3 c = search needs
@@ -67,10 +81,7 @@ same-length-7 : tie.Need-same-length-7
 same-length-7 c = search needs
 
 returns-2 : tie.Need-returns-2
-returns-2 c =
-    let e = c .before .before .before .before .before .before .before .before .before .before .before .before .before .before .before .before .before .before .before .before .before .before .before .before .before .before .before .before in
-    let opened = opened-by (lent e) (lends e) (e .args .number) (e .args .time) (c .before .before .before .before .before .before .before .before .before .before .before .before .before .before .before .before .before .before .before .judge .ensures) (c .before .before .before .before .before .before .before .before .before .before .before .before .before .before .before .before .before .r .given .1) in
-    called-reminder opened (c .before .before .before .before .before .before .before .before .before .before .remind .ensures)
+returns-2 c = let done = c .before .before .before .before .before .before .before .before .before .before in called-reminder (opened (done .before .before .before .before .before .before .before)) (done .remind .ensures)
 
 pub reminder-spec : {M : Type 1} → statement M
 reminder-spec =

@@ -14,8 +14,12 @@ use Rattle.record.proofs.Record.settle.Reads as settle-reads
 use Rattle.stepping.proofs.widened.Reads as widened-reads
 
 -- from where C has come to s back to the entry
-abbrev at-entry : tie.After-widened → tie.Start
-at-entry c = c .before .before .before .before .before .before .before .before .before .before
+abbrev start : tie.After-widened → tie.Start
+start c = c .before .before .before .before .before .before .before .before .before .before
+
+-- from where the record is taken from what has widened back to there
+abbrev widened : tie.After-g → tie.After-widened
+widened c = c .before .before .before .before .before .before .before .before .before
 
 window-fits : {n : ℕ} → n ≤ window → n < 18446744073709551616
 window-fits l = omega arith
@@ -28,11 +32,12 @@ settle-requires c κs = search needs
 
 add-t29 : tie.Need-add-t29
 add-t29 c =
-    let w = c .before .before .before .before .before .before .before .before .before .before .before .before .before .before .before .before .before .before .before .before .before in
-    let p = at-entry w .pre in
+    let settled = c .before .before .before .before .before .before in
+    let w = widened (settled .before .before .before .before .before .before) in
+    let p = start w .pre in
     let wide = stepped (p .0 .0) (p .1 .1) (p .1 .0 .0) (p .1 .0 .1) (w .widened .ensures) in
     let sized = widened-sized (p .0 .0) (p .0 .1) (p .1 .1) (p .1 .0 .0) (p .1 .0 .1) wide in
-    record { fits = window-fits (gone-few (p .0 .0) (p .0 .1) (p .1 .1) (p .1 .0 .0) (p .1 .0 .1) wide refl refl (c .before .before .before .before .before .before .settle .ensures .0) sized) }
+    record { fits = window-fits (gone-few (p .0 .0) (p .0 .1) (p .1 .1) (p .1 .0 .0) (p .1 .0 .1) wide refl refl (settled .settle .ensures .0) sized) }
 
 same-length : tie.Need-same-length
 same-length c = search needs
@@ -48,9 +53,10 @@ same-length-4 c = search needs
 
 returns : tie.Need-returns
 returns c =
-    let w = c .before .before .before .before .before .before .before .before .before .before .before .before .before .before .before .before .before .before .before .before .before in
-    let p = at-entry w .pre in
-    let e = c .before .before .before .before .before .before .settle .ensures in
+    let settled = c .before .before .before .before .before .before in
+    let w = widened (settled .before .before .before .before .before .before) in
+    let p = start w .pre in
+    let e = settled .settle .ensures in
     let wide = stepped (p .0 .0) (p .1 .1) (p .1 .0 .0) (p .1 .0 .1) (w .widened .ensures) in
     ahead-did (p .0 .0) (p .0 .1) (p .1 .1) (p .1 .0 .0) (p .1 .0 .1) wide refl refl
     (finished (widened-sized (p .0 .0) (p .0 .1) (p .1 .1) (p .1 .0 .0) (p .1 .0 .1) wide) (settle-room (p .0 .0) (p .0 .1) (p .1 .1) (p .1 .0 .0) (p .1 .0 .1) wide refl refl) (e .0) (e .1))
