@@ -46,9 +46,13 @@ by c =
     by-data-key (told (start c)) (start c .args .number) _ _ (c .before .before .before .first-word .ensures) (c .before .before .address .ensures .0) _
     (c .data-way-of .ensures)
 
-going : (c : tie.After-known-told) → Goes (told (start (c .before .before .before))) (c .before .way .given .0 .0)
+-- from the known place back to the way
+abbrev judged : tie.After-known-told → tie.After-data-way-of
+judged c = c .before .before .before
+
+going : (c : tie.After-known-told) → Goes (told (start (judged c))) (c .before .way .given .0 .0)
 going c =
-    let at = c .before .before .before in
+    let at = judged c in
     data-goes (told (start at)) (start at .args .number) (start at .args .handle) _ _ (by at) (c .before .way .given .1)
 
 mul-from : tie.Need-mul-from
@@ -107,8 +111,9 @@ enum-known-way-2 c = search needs
 
 open-at-requires : tie.Need-open-at-requires
 open-at-requires c κs =
-    let at = c .before .before .before .before .before .before in
-    ready (told (start at)) (start at .args .number) (start at .args .handle) _ _ (by at) (c .before .before .before .before .way2 .given .1)
+    let free = c .before .before .before in
+    let at = free .before .before .before in
+    ready (told (start at)) (start at .args .number) (start at .args .handle) _ _ (by at) (free .before .way2 .given .1)
 
 enum-known-way-3 : tie.Need-enum-known-way-3
 enum-known-way-3 c = search needs
@@ -139,11 +144,12 @@ same-length-7 c = search needs
 
 returns : tie.Need-returns
 returns c =
-    let told-at = c .before .before .before .before .before .before .before .before .before .before .before .before .before .before .before .before .before .before .before in
-    let at = told-at .before .before .before in
-    let call = c .before .before .before .before .before .before .before .before .before .before .before .before .«data» in
+    let called = c .before .before .before .before .before .before .before .before .before .before .before .before in
+    let known = called .before .before .before .before .before .before .before in
+    let at = judged known in
+    let call = called .«data» in
     data-kept-did (told (start at)) (start at .args .number) (start at .args .handle) _ _ (parts _ _ _) (buffers _ _ _) _ (by at)
-    (told-at .before .way .given .1) (record { words = call .kept .0; handles = call .kept .1 .0; marks = call .kept .1 .1 .0 }) (call .ensures)
+    (known .before .way .given .1) (record { words = call .kept .0; handles = call .kept .1 .0; marks = call .kept .1 .1 .0 }) (call .ensures)
 
 same-length-8 : tie.Need-same-length-8
 same-length-8 c = search needs
@@ -156,9 +162,11 @@ same-length-10 c = search needs
 
 returns-2 : tie.Need-returns-2
 returns-2 c =
-    let at = c .before .before .before .before .before .before .before .before .before .before .before .before .before in
-    opening-did (told (start at)) (start at .args .number) (start at .args .handle) _ _ (by at) (c .before .before .before .before .before .before .before .before .before .before .before .way2 .given .1) _ _ _ _ _ _
-    (at .before .before .before .first-word .ensures) (at .before .before .address .ensures .0) (c .before .before .before .before .before .before .open-at .ensures)
+    let opened = c .before .before .before .before .before .before in
+    let free = opened .before .before .before .before in
+    let at = free .before .before .before in
+    opening-did (told (start at)) (start at .args .number) (start at .args .handle) _ _ (by at) (free .before .way2 .given .1) _ _ _ _ _ _
+    (at .before .before .before .first-word .ensures) (at .before .before .address .ensures .0) (opened .open-at .ensures)
 
 same-length-11 : tie.Need-same-length-11
 same-length-11 c = search needs

@@ -38,9 +38,13 @@ same-length-4 c = search needs
 
 returns-2 : tie.Need-returns-2
 returns-2 c =
-    let test = c .before .before .before .before .before .before .before .before .before .before .before .before .before .before .before .before in
-    cleared _ _ _ _ _ _ _ _ (sym (test .before .is-whole .ensures) ∙ not-false _ (test .if1 .left)) (c .before .before .before .before .before .before .before .before .before .before .before .before .before .before .zero-u64 .ensures) (c .before .before .before .before .before .before .before .before .before .before .zero-u642 .ensures)
-    (c .before .before .before .before .before .before .zero-u32 .ensures) (c .before .before .zero-u8 .ensures)
+    let marks-zeroed = c .before .before in
+    let handles-zeroed = marks-zeroed .before .before .before .before in
+    let words-zeroed = handles-zeroed .before .before .before .before in
+    let keys-zeroed = words-zeroed .before .before .before .before in
+    let whole = keys-zeroed .before .before in
+    cleared _ _ _ _ _ _ _ _ (sym (whole .before .is-whole .ensures) ∙ not-false _ (whole .if1 .left)) (keys-zeroed .zero-u64 .ensures)
+    (words-zeroed .zero-u642 .ensures) (handles-zeroed .zero-u32 .ensures) (marks-zeroed .zero-u8 .ensures)
 
 pub empty-spec : {M : Type 1} → statement M
 empty-spec =

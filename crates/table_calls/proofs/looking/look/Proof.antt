@@ -20,25 +20,32 @@ address-requires c κs = search needs
 way-of-requires : tie.Need-way-of-requires
 way-of-requires c κs = search needs
 
-by : (c : tie.After-way-of) → let a = c .before .before .before .before .before .before .before .before .before .args in
+abbrev start : tie.After-way-of → tie.Start
+start c = c .before .before .before .before .before .before .before .before .before
+
+by : (c : tie.After-way-of) → let a = start c .args in
     c .way-of .result
     ≡ wayTo (now (a .keys)) (now (a .words)) (now (a .handles)) (now (a .marks)) (now (a .waits)) (now (a .values))
     (keyOf (now (a .destination)) (now (a .source)) (a .priority))
 by c =
-    let a = c .before .before .before .before .before .before .before .before .before .args in
+    let a = start c .args in
     way-of-key _ 0 (now (a .keys)) (keyOf (now (a .destination)) (now (a .source)) (a .priority)) _ _ (c .before .before .first-word .ensures)
     (c .before .address .ensures .0) _ (c .way-of .ensures)
 
 enum-known-way : tie.Need-enum-known-way
 enum-known-way c = search needs
 
-going : (c : tie.After-known-told) → let a = c .before .before .before .before .before .before .before .before .before .before .before .before .args in
+-- from the known place back to the way
+abbrev judged : tie.After-known-told → tie.After-way-of
+judged c = c .before .before .before
+
+going : (c : tie.After-known-told) → let a = start (judged c) .args in
     Goes (now (a .keys)) (now (a .words)) (now (a .handles)) (now (a .marks)) (now (a .waits)) (now (a .values))
     (keyOf (now (a .destination)) (now (a .source)) (a .priority)) (c .before .way .given .0 .0)
 going c =
-    let a = c .before .before .before .before .before .before .before .before .before .before .before .before .args in
+    let a = start (judged c) .args in
     goes (now (a .keys)) (now (a .words)) (now (a .handles)) (now (a .marks)) (now (a .waits)) (now (a .values))
-    (keyOf (now (a .destination)) (now (a .source)) (a .priority)) _ _ (by (c .before .before .before)) (c .before .way .given .1)
+    (keyOf (now (a .destination)) (now (a .source)) (a .priority)) _ _ (by (judged c)) (c .before .way .given .1)
 
 mul-from : tie.Need-mul-from
 mul-from c = omega (arith, going c)
@@ -90,10 +97,10 @@ part-look-at-end-3 c = omega (arith, going (c .before .before))
 
 look-at-requires : tie.Need-look-at-requires
 look-at-requires c κs =
-    let at = c .before .before .before .before .before in
-    let a = at .before .before .before .before .before .before .before .before .before .before .before .before .args in
-    let i = at .before .way .given .0 .0 in
-    let g = going at in (
+    let known = c .before .before .before .before .before in
+    let a = start (judged known) .args in
+    let i = known .before .way .given .0 .0 in
+    let g = going known in (
       (length-lent placeWords i (now (a .words)) (omega (arith, g)), length-lent slots i (now (a .marks)) (omega (arith, g))),
       (g .marks-room, g .values-room),
     )
@@ -112,16 +119,18 @@ same-length-2 c = search needs
 
 returns : tie.Need-returns
 returns c =
-    let at = c .before .before .before .before .before .before .before .before .before .before in
-    let a = at .before .before .before .before .before .before .before .before .before .before .before .before .args in
+    let looked = c .before .before .before .before in
+    let known = looked .before .before .before .before .before .before in
+    let a = start (judged known) .args in
     known-looked (now (a .keys)) (now (a .words)) (now (a .handles)) (now (a .marks)) (now (a .waits)) (now (a .values))
-    (keyOf (now (a .destination)) (now (a .source)) (a .priority)) _ _ (by (at .before .before .before)) (at .before .way .given .1) _ _ _ (c .before .before .before .before .look-at .ensures)
+    (keyOf (now (a .destination)) (now (a .source)) (a .priority)) _ _ (by (judged known)) (known .before .way .given .1) _ _ _ (looked .look-at .ensures)
 
 returns-2 : tie.Need-returns-2
 returns-2 c =
-    let a = c .before .before .before .before .before .before .before .before .before .before .before .before .before .args in
+    let at = c .before .before .before .before in
+    let a = start at .args in
     turned-looked (now (a .keys)) (now (a .words)) (now (a .handles)) (now (a .marks)) (now (a .waits)) (now (a .values))
-    (keyOf (now (a .destination)) (now (a .source)) (a .priority)) _ _ _ (by (c .before .before .before .before)) (c .before .before .way2 .given .1) (c .refuses .ensures)
+    (keyOf (now (a .destination)) (now (a .source)) (a .priority)) _ _ _ (by at) (c .before .before .way2 .given .1) (c .refuses .ensures)
 
 pub look-spec : {M : Type 1} → statement M
 look-spec =

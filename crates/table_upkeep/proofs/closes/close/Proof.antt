@@ -46,8 +46,12 @@ by : (c : tie.After-way-of) → c .way-of .result ≡ way (told (start c)) 0
 by c =
     by-key (told (start c)) 0 _ _ (c .before .before .first-word .ensures) (c .before .address .ensures .0) _ (c .way-of .ensures)
 
-going : (c : tie.After-known-told) → Goes (told (start (c .before .before .before))) (c .before .way .given .0 .0)
-going c = goes (told (start (c .before .before .before))) close 0 refl _ _ (by (c .before .before .before)) (c .before .way .given .1)
+-- from the known place back to the way
+abbrev judged : tie.After-known-told → tie.After-way-of
+judged c = c .before .before .before
+
+going : (c : tie.After-known-told) → Goes (told (start (judged c))) (c .before .way .given .0 .0)
+going c = goes (told (start (judged c))) close 0 refl _ _ (by (judged c)) (c .before .way .given .1)
 
 mul-from : tie.Need-mul-from
 mul-from c = omega (arith, going c)
@@ -100,8 +104,18 @@ part-close-end-3 c = omega (arith, going (c .before .before))
 close-requires : tie.Need-close-requires
 close-requires c κs = search needs
 
+-- from where the six lent slices are back, to the answer of the call on one place
+abbrev called : tie.After-slice-known13 → tie.After-close
+called c = c .before .before .before .before .before .before .before .before .before .before .before .before
+
+-- and from there to the known place
+abbrev known : tie.After-close → tie.After-known-told
+known c = c .before .before .before .before .before .before .before
+
 free-key-requires : tie.Need-free-key-requires
-free-key-requires c κs = (going (c .before .before .before .before .before .before .before .before .before .before .before .before .before .before .before .before .before .before .before .before) .keys-sized, going (c .before .before .before .before .before .before .before .before .before .before .before .before .before .before .before .before .before .before .before .before) .here)
+free-key-requires c κs =
+    let g = going (known (called (c .before))) in
+    (g .keys-sized, g .here)
 
 enum-known-way-2 : tie.Need-enum-known-way-2
 enum-known-way-2 c = search needs
@@ -132,18 +146,19 @@ same-length-7 c = search needs
 
 returns : tie.Need-returns
 returns c =
-    let at = c .before .before .before .before .before .before .before .before .before .before .before .before .before .before .before .before .before .before .before .before .before .before .before in
-    let call = c .before .before .before .before .before .before .before .before .before .before .before .before .before .before .before .before .close in
-    closed-did (told (start (at .before .before .before))) _ _ _ (parts _ _ _) (buffers _ _ _) _ (by (at .before .before .before)) (at .before .way .given .1)
-    (record { words = call .kept .0; handles = call .kept .1 .0; marks = call .kept .1 .1 .0 }) (call .ensures) (c .before .before .free-key .ensures)
+    let freed = c .before .before in
+    let call = called (freed .before .before) in
+    let at = known call in
+    closed-did (told (start (judged at))) _ _ _ (parts _ _ _) (buffers _ _ _) _ (by (judged at)) (at .before .way .given .1)
+    (record { words = call .close .kept .0; handles = call .close .kept .1 .0; marks = call .close .kept .1 .1 .0 }) (call .close .ensures) (freed .free-key .ensures)
 
 same-length-8 : tie.Need-same-length-8
 same-length-8 c = search needs
 
 returns-2 : tie.Need-returns-2
 returns-2 c =
-    turned-did (told (start (c .before .before .before .before))) close 0 refl refl _ _ _ (by (c .before .before .before .before)) (c .before .before .way2 .given .1)
-    (c .refused .ensures)
+    let at = c .before .before .before .before in
+    turned-did (told (start at)) close 0 refl refl _ _ _ (by at) (c .before .before .way2 .given .1) (c .refused .ensures)
 
 pub close-spec : {M : Type 1} → statement M
 close-spec =

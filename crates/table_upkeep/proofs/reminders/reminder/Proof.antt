@@ -45,9 +45,13 @@ by : (c : tie.After-way-of) → c .way-of .result ≡ way (told (start c)) (star
 by c =
     by-key (told (start c)) (start c .args .number) _ _ (c .before .before .first-word .ensures) (c .before .address .ensures .0) _ (c .way-of .ensures)
 
-going : (c : tie.After-known-told) → Goes (told (start (c .before .before .before))) (c .before .way .given .0 .0)
+-- from the known place back to the way
+abbrev judged : tie.After-known-told → tie.After-way-of
+judged c = c .before .before .before
+
+going : (c : tie.After-known-told) → Goes (told (start (judged c))) (c .before .way .given .0 .0)
 going c =
-    let at = c .before .before .before in
+    let at = judged c in
     goes (told (start at)) (reminder (start at .args .number)) (start at .args .number) refl _ _ (by at) (c .before .way .given .1)
 
 mul-from : tie.Need-mul-from
@@ -127,11 +131,12 @@ same-length-6 c = search needs
 
 returns : tie.Need-returns
 returns c =
-    let told-at = c .before .before .before .before .before .before .before .before .before .before .before .before .before .before .before .before .before .before .before in
-    let at = told-at .before .before .before in
+    let called = c .before .before .before .before .before .before .before .before .before .before .before .before in
+    let known = called .before .before .before .before .before .before .before in
+    let at = judged known in
     let number = start at .args .number in
-    let call = c .before .before .before .before .before .before .before .before .before .before .before .before .reminder in
-    kept-did (told (start at)) (reminder number) number refl refl _ _ (parts _ _ _) (buffers _ _ _) _ (by at) (told-at .before .way .given .1)
+    let call = called .reminder in
+    kept-did (told (start at)) (reminder number) number refl refl _ _ (parts _ _ _) (buffers _ _ _) _ (by at) (known .before .way .given .1)
     (record { words = call .kept .0; handles = call .kept .1 .0; marks = call .kept .1 .1 .0 }) (call .ensures)
 
 returns-2 : tie.Need-returns-2

@@ -45,8 +45,12 @@ by : (c : tie.After-way-of) → c .way-of .result ≡ way (told (start c)) 0
 by c =
     by-key (told (start c)) 0 _ _ (c .before .before .first-word .ensures) (c .before .address .ensures .0) _ (c .way-of .ensures)
 
-going : (c : tie.After-known-told) → Goes (told (start (c .before .before .before))) (c .before .way .given .0 .0)
-going c = goes (told (start (c .before .before .before))) tick 0 refl _ _ (by (c .before .before .before)) (c .before .way .given .1)
+-- from the known place back to the way
+abbrev judged : tie.After-known-told → tie.After-way-of
+judged c = c .before .before .before
+
+going : (c : tie.After-known-told) → Goes (told (start (judged c))) (c .before .way .given .0 .0)
+going c = goes (told (start (judged c))) tick 0 refl _ _ (by (judged c)) (c .before .way .given .1)
 
 mul-from : tie.Need-mul-from
 mul-from c = omega (arith, going c)
@@ -125,15 +129,17 @@ same-length-6 c = search needs
 
 returns : tie.Need-returns
 returns c =
-    let at = c .before .before .before .before .before .before .before .before .before .before .before .before .before .before .before .before .before .before .before in
-    let call = c .before .before .before .before .before .before .before .before .before .before .before .before .tick in
-    kept-did (told (start (at .before .before .before))) tick 0 refl refl _ _ (parts _ _ _) (buffers _ _ _) _ (by (at .before .before .before)) (at .before .way .given .1)
+    let called = c .before .before .before .before .before .before .before .before .before .before .before .before in
+    let known = called .before .before .before .before .before .before .before in
+    let at = judged known in
+    let call = called .tick in
+    kept-did (told (start at)) tick 0 refl refl _ _ (parts _ _ _) (buffers _ _ _) _ (by at) (known .before .way .given .1)
     (record { words = call .kept .0; handles = call .kept .1 .0; marks = call .kept .1 .1 .0 }) (call .ensures)
 
 returns-2 : tie.Need-returns-2
 returns-2 c =
-    turned-did (told (start (c .before .before .before .before))) tick 0 refl refl _ _ _ (by (c .before .before .before .before)) (c .before .before .way2 .given .1)
-    (c .refused .ensures)
+    let at = c .before .before .before .before in
+    turned-did (told (start at)) tick 0 refl refl _ _ _ (by at) (c .before .before .way2 .given .1) (c .refused .ensures)
 
 pub tick-spec : {M : Type 1} → statement M
 tick-spec =
