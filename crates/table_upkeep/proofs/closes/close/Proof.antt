@@ -123,37 +123,40 @@ enum-known-way-2 c = search needs
 refused-requires : tie.Need-refused-requires
 refused-requires c κs = search needs
 
+-- where the six lent slices are back, and the key is not yet freed
+abbrev lent-back : tie.After-slice-known14 → tie.After-slice-known13
+lent-back c = c .before .before .before .before
+
 same-length : tie.Need-same-length
-same-length c = search needs
+same-length c = c .before .keys .given
 
 same-length-2 : tie.Need-same-length-2
-same-length-2 c = search needs
+same-length-2 c = lent-back c .before .before .before .before .before .before .before .before .before .before .before .words .given .1
 
 same-length-3 : tie.Need-same-length-3
-same-length-3 c = search needs
+same-length-3 c = lent-back c .before .before .before .before .before .before .before .before .before .handles .given .1
 
 same-length-4 : tie.Need-same-length-4
-same-length-4 c = search needs
+same-length-4 c = lent-back c .before .before .before .before .before .before .before .marks .given .1
 
 same-length-5 : tie.Need-same-length-5
-same-length-5 c = search needs
+same-length-5 c = lent-back c .before .before .before .before .before .up .given
 
 same-length-6 : tie.Need-same-length-6
-same-length-6 c = search needs
+same-length-6 c = lent-back c .before .before .before .returned .given
 
 same-length-7 : tie.Need-same-length-7
-same-length-7 c = search needs
+same-length-7 c = lent-back c .before .nack .given
 
 returns : tie.Need-returns
 returns c =
-    let freed = c .before .before in
-    let call = called (freed .before .before) in
+    let call = called (lent-back c) in
     let at = known call in
     closed-did (told (start (judged at))) _ _ _ (parts _ _ _) (buffers _ _ _) _ (by (judged at)) (at .before .way .given .1)
-    (record { words = call .close .kept .0; handles = call .close .kept .1 .0; marks = call .close .kept .1 .1 .0 }) (call .close .ensures) (freed .free-key .ensures)
+    (record { words = call .close .kept .0; handles = call .close .kept .1 .0; marks = call .close .kept .1 .1 .0 }) (call .close .ensures) (c .before .before .free-key .ensures)
 
 same-length-8 : tie.Need-same-length-8
-same-length-8 c = search needs
+same-length-8 c = refl
 
 returns-2 : tie.Need-returns-2
 returns-2 c =
