@@ -6,9 +6,13 @@ use Rattle.pik_channel.proofs.channels.pik_close.Tie as tie
 close-requires : tie.Need-close-requires
 close-requires c κs = search needs
 
+-- where the four slices of the table are back, and the three buffers not yet
+abbrev table-back : tie.After-slice-known14 → tie.After-slice-known11
+table-back c = c .before .before .before .before .before .before
+
 -- where `close` has given its answer
 abbrev call : tie.After-slice-known14 → tie.After-close
-call c = c .before .before .before .before .before .before .before .before .before .before .before .before .before .before
+call c = table-back c .before .before .before .before .before .before .before .before
 
 same-length : tie.Need-same-length
 same-length c = call c .close .kept .0
