@@ -112,10 +112,10 @@ refuses-requires : tie.Need-refuses-requires
 refuses-requires c κs = search needs
 
 same-length : tie.Need-same-length
-same-length c = search needs
+same-length c = c .before .before .before .waits .given
 
 same-length-2 : tie.Need-same-length-2
-same-length-2 c = search needs
+same-length-2 c = c .before .values .given
 
 returns : tie.Need-returns
 returns c =

@@ -91,10 +91,10 @@ cast-t20 : tie.Need-cast-t20
 cast-t20 c = search needs
 
 same-length : tie.Need-same-length
-same-length c = search needs
+same-length c = c .before .before .before .before .waits .given
 
 same-length-2 : tie.Need-same-length-2
-same-length-2 c = search needs
+same-length-2 c = c .before .before .values .given
 
 returns-2 : tie.Need-returns-2
 returns-2 c =
