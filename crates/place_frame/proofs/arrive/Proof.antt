@@ -1,6 +1,6 @@
 -- `arrive` meets its contract: by where the number lies (Frames).
 use Prim.Native.Nat.{ℕ}
-use mathlib.Core.Path.{_≡_, subst}
+use mathlib.Core.Path.{_≡_, refl, subst}
 use native.Mathlib.Omega.{arith}
 use Rattle.ring.specs.Ring.{seen, Ahead}
 use Rattle.larq.specs.Channel.{window, reach}
@@ -88,24 +88,40 @@ enum-told-4 c = search needs
 restarted-requires : tie.Need-restarted-requires
 restarted-requires c κs = search needs
 
+-- from the end of each of the five ways back to where its call has done the work
+abbrev stepped : tie.After-counted → tie.After-ahead
+stepped c = c .before .before .before .before .before .before .before .before .before .before .before
+
+abbrev begun : tie.After-slice-known13 → tie.After-begun
+begun c = c .before .before .before .before
+
+abbrev filled : tie.After-counted2 → tie.After-filled
+filled c = c .before .before .before .before .before .before .before .before .before
+
+abbrev sent-back : tie.After-slice-known19 → tie.After-sent-back
+sent-back c = c .before .before .before .before
+
+abbrev restarted : tie.After-slice-known22 → tie.After-restarted
+restarted c = c .before .before .before .before .before .before
+
 same-length : tie.Need-same-length
-same-length c = search needs
+same-length c = stepped c .ahead .kept .1 .0
 
 same-length-2 : tie.Need-same-length-2
-same-length-2 c = search needs
+same-length-2 c = stepped c .ahead .kept .1 .1 .0
 
 same-length-3 : tie.Need-same-length-3
-same-length-3 c = search needs
+same-length-3 c = stepped c .ahead .kept .1 .1 .1 .0
 
 same-length-4 : tie.Need-same-length-4
-same-length-4 c = search needs
+same-length-4 c = stepped c .ahead .kept .1 .1 .1 .1 .0
 
 same-length-5 : tie.Need-same-length-5
-same-length-5 c = search needs
+same-length-5 c = stepped c .ahead .kept .1 .1 .1 .1 .1 .0
 
 returns : tie.Need-returns
 returns c =
-    let done = c .before .before .before .before .before .before .before .before .before .before .before in
+    let done = stepped c in
     let told = done .before .before .before .before .before .before .before in
     let looked = told .before .before in
     let a = start looked .args in
@@ -113,17 +129,17 @@ returns c =
     frame-ahead (a .s .0) (a .handle) (a .time) (p .0 .0) (a .returned .now) (ahead-by looked _ (told .d .given .1)) (done .ahead .ensures) (c .counted .ensures)
 
 same-length-6 : tie.Need-same-length-6
-same-length-6 c = search needs
+same-length-6 c = begun c .begun .kept .0
 
 same-length-7 : tie.Need-same-length-7
-same-length-7 c = search needs
+same-length-7 c = refl
 
 same-length-8 : tie.Need-same-length-8
-same-length-8 c = search needs
+same-length-8 c = begun c .begun .kept .1 .0
 
 returns-2 : tie.Need-returns-2
 returns-2 c =
-    let done = c .before .before .before .before in
+    let done = begun c in
     let told = done .before .before .before in
     let looked = told .before .before in
     let a = start looked .args in
@@ -133,20 +149,20 @@ returns-2 c =
     (omega (arith, p .1 .0)) (e .head) (e .frame) (e .answer)
 
 same-length-9 : tie.Need-same-length-9
-same-length-9 c = search needs
+same-length-9 c = filled c .filled .kept .1 .0
 
 same-length-10 : tie.Need-same-length-10
-same-length-10 c = search needs
+same-length-10 c = filled c .filled .kept .1 .1 .0
 
 same-length-11 : tie.Need-same-length-11
-same-length-11 c = search needs
+same-length-11 c = filled c .filled .kept .1 .1 .1 .0
 
 same-length-12 : tie.Need-same-length-12
-same-length-12 c = search needs
+same-length-12 c = filled c .filled .kept .1 .1 .1 .1 .0
 
 returns-3 : tie.Need-returns-3
 returns-3 c =
-    let done = c .before .before .before .before .before .before .before .before .before in
+    let done = filled c in
     let told = done .before .before .before .before .before in
     let looked = told .before .before in
     let a = start looked .args in
@@ -154,17 +170,17 @@ returns-3 c =
     frame-missing (a .s .0) (a .handle) (a .time) (p .0 .0) (a .returned .now) (a .nack .now) (lies looked Missing (told .enum-told2 .given .1)) (done .filled .ensures) (c .counted2 .ensures)
 
 same-length-13 : tie.Need-same-length-13
-same-length-13 c = search needs
+same-length-13 c = sent-back c .sent-back .kept .0
 
 same-length-14 : tie.Need-same-length-14
-same-length-14 c = search needs
+same-length-14 c = refl
 
 same-length-15 : tie.Need-same-length-15
-same-length-15 c = search needs
+same-length-15 c = sent-back c .sent-back .kept .1 .0
 
 returns-4 : tie.Need-returns-4
 returns-4 c =
-    let done = c .before .before .before .before in
+    let done = sent-back c in
     let told = done .before .before .before in
     let looked = told .before .before in
     let a = start looked .args in
@@ -174,23 +190,23 @@ returns-4 c =
     (omega (arith, p .1 .1)) (e .0) (e .1) (e .2)
 
 same-length-16 : tie.Need-same-length-16
-same-length-16 c = search needs
+same-length-16 c = restarted c .restarted .kept .1 .0
 
 same-length-17 : tie.Need-same-length-17
-same-length-17 c = search needs
+same-length-17 c = refl
 
 same-length-18 : tie.Need-same-length-18
-same-length-18 c = search needs
+same-length-18 c = refl
 
 same-length-19 : tie.Need-same-length-19
-same-length-19 c = search needs
+same-length-19 c = restarted c .restarted .kept .1 .1 .1 .1 .0
 
 same-length-20 : tie.Need-same-length-20
-same-length-20 c = search needs
+same-length-20 c = restarted c .restarted .kept .1 .1 .1 .1 .1 .0
 
 returns-5 : tie.Need-returns-5
 returns-5 c =
-    let done = c .before .before .before .before .before .before in
+    let done = restarted c in
     let told = done .before .before .before .before .before .before in
     let looked = told .before .before in
     let a = start looked .args in

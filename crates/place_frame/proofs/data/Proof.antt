@@ -73,10 +73,10 @@ arrive-requires c κs =
     ((ready (opened at), in-ring (opened at)), (lent-room (lends e .up) (room .up-room), lent-room (lends e .returned) (room .returned-room), room .nack-room))
 
 same-length : tie.Need-same-length
-same-length c = search needs
+same-length c = refl
 
 same-length-2 : tie.Need-same-length-2
-same-length-2 c = search needs
+same-length-2 c = refl
 
 returns : tie.Need-returns
 returns c =
@@ -85,14 +85,18 @@ returns c =
     let e = start judged in
     called-stopped (frame (e .args .number) (e .args .handle)) refl (stopped-by (lent e) (lends e) (e .args .number) (e .args .time) (judged .judge .ensures) (stopped .n .given .1)) (c .refused .ensures)
 
+-- from the end back to where the frame has come to the record
+abbrev arrived : tie.After-slice-known12 → tie.After-arrive
+arrived c = c .before .before .before .before .before .before .before .before .before .before .before .before
+
 same-length-3 : tie.Need-same-length-3
-same-length-3 c = search needs
+same-length-3 c = arrived c .arrive .kept .1 .0
 
 same-length-4 : tie.Need-same-length-4
-same-length-4 c = search needs
+same-length-4 c = arrived c .arrive .kept .1 .1 .0
 
 same-length-5 : tie.Need-same-length-5
-same-length-5 c = search needs
+same-length-5 c = arrived c .arrive .kept .1 .1 .1 .0
 
 same-length-6 : tie.Need-same-length-6
 same-length-6 c = search needs
@@ -101,14 +105,13 @@ same-length-7 : tie.Need-same-length-7
 same-length-7 c = search needs
 
 same-length-8 : tie.Need-same-length-8
-same-length-8 c = search needs
+same-length-8 c = arrived c .arrive .kept .1 .1 .1 .1 .1 .1 .0
 
 returns-2 : tie.Need-returns-2
 returns-2 c =
-    let arrived = c .before .before .before .before .before .before .before .before .before .before .before .before in
-    let at = arrived .before .before .before .before .before .before .before .before in
+    let at = arrived c .before .before .before .before .before .before .before .before in
     let room = enough (opened at) in
-    let call = arrived .arrive in
+    let call = arrived c .arrive in
     called-frame (start (judged at) .args .handle) (opened at)
     (front-did (room .up-room) (room .returned-room) (call .kept .1 .1 .1 .1 .0) (call .kept .1 .1 .1 .1 .1 .0) (call .ensures))
 

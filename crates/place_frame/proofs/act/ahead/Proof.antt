@@ -1,5 +1,5 @@
 -- `ahead` meets its contract: what `widened` and `brought` leave is handed to the laws of the step ahead (StepAhead).
-use mathlib.Core.Path.{refl}
+use mathlib.Core.Path.{refl, _∙_}
 use Rattle.place.proofs.StepAhead.{stepped, widened-sized, settle-room, ahead-did}
 use borrow.Author.Needs.{needs}
 use Rattle.place_frame.proofs.act.ahead.Statement.{statement}
@@ -29,27 +29,34 @@ brought-requires c κs =
       settle-room (p .0 .0) (p .0 .1) (p .1 .1) (p .1 .0 .0) (p .1 .0 .1) wide refl refl,
     )
 
+-- from the end back to where the number waits and M has settled
+abbrev settled : tie.After-slice-known13 → tie.After-brought
+settled c = c .before .before .before .before .before .before .before .before
+
+-- and on to where C has come to s
+abbrev stepped-to : tie.After-slice-known13 → tie.After-widened
+stepped-to c = widened (settled c .before .before .before .before .before)
+
 same-length : tie.Need-same-length
-same-length c = search needs
+same-length c = settled c .brought .kept .1 .0 ∙ stepped-to c .widened .kept .1 .0
 
 same-length-2 : tie.Need-same-length-2
-same-length-2 c = search needs
+same-length-2 c = settled c .brought .kept .1 .1 .0
 
 same-length-3 : tie.Need-same-length-3
-same-length-3 c = search needs
+same-length-3 c = settled c .brought .kept .1 .1 .1 .0 ∙ stepped-to c .widened .kept .1 .1 .1 .0
 
 same-length-4 : tie.Need-same-length-4
-same-length-4 c = search needs
+same-length-4 c = settled c .brought .kept .1 .1 .1 .1 .0 ∙ stepped-to c .widened .kept .1 .1 .1 .1 .0
 
 same-length-5 : tie.Need-same-length-5
-same-length-5 c = search needs
+same-length-5 c = stepped-to c .widened .kept .1 .1 .1 .1 .1 .0
 
 returns : tie.Need-returns
 returns c =
-    let settled = c .before .before .before .before .before .before .before .before in
-    let w = widened (settled .before .before .before .before .before) in
+    let w = stepped-to c in
     let p = start w .pre in
-    let e = settled .brought .ensures in
+    let e = settled c .brought .ensures in
     let wide = stepped (p .0 .0) (p .1 .1) (p .1 .0 .0) (p .1 .0 .1) (w .widened .ensures) in
     ahead-did (p .0 .0) (p .0 .1) (p .1 .1) (p .1 .0 .0) (p .1 .0 .1) wide (e .0) (e .1) (e .2)
 

@@ -44,9 +44,13 @@ set-waiting-requires c κs = search needs
 settle-requires : tie.Need-settle-requires
 settle-requires c κs = search needs
 
+-- from the end back to where M has settled
+abbrev settled : tie.After-struct-known2 → tie.After-settle
+settled c = c .before .before .before .before .before .before
+
 add-t23 : tie.Need-add-t23
 add-t23 c =
-    let done = c .before .before .before .before .before .before in
+    let done = settled c in
     let waits = waiting done in
     let a = start waits .args in
     let e = waits .set-waiting .ensures in
@@ -55,20 +59,20 @@ add-t23 c =
     omega (arith, settled-room fits room (done .settle .ensures .0), start waits .good .1 .1 .1 .1 .0)
 
 same-length : tie.Need-same-length
-same-length c = search needs
+same-length c = settled c .settle .kept .1 .0
 
 same-length-2 : tie.Need-same-length-2
-same-length-2 c = search needs
+same-length-2 c = waiting (settled c) .set-waiting .kept .0
 
 same-length-3 : tie.Need-same-length-3
-same-length-3 c = search needs
+same-length-3 c = waiting (settled c) .set-waiting .kept .1 .0
 
 same-length-4 : tie.Need-same-length-4
-same-length-4 c = search needs
+same-length-4 c = settled c .settle .kept .1 .1 .1 .1 .0
 
 returns : tie.Need-returns
 returns c =
-    let done = c .before .before .before .before .before .before in
+    let done = settled c in
     let waits = waiting done in
     let a = start waits .args in
     let e = waits .set-waiting .ensures in

@@ -24,25 +24,28 @@ brought-requires c κs =
     let to = arrived .arrived .ensures in
     (p .0 .0 .sized, filled-room (p .0 .0) (a .s .0) (a .handle) (a .time) (p .0 .1) refl refl (to .0) (to .1) (to .2) (a .up .now) (p .1))
 
+-- from the end back to where the number waits and M has settled
+abbrev settled : tie.After-slice-known8 → tie.After-brought
+settled c = c .before .before .before .before .before .before .before .before
+
 same-length : tie.Need-same-length
-same-length c = search needs
+same-length c = settled c .brought .kept .1 .0
 
 same-length-2 : tie.Need-same-length-2
-same-length-2 c = search needs
+same-length-2 c = settled c .brought .kept .1 .1 .0
 
 same-length-3 : tie.Need-same-length-3
-same-length-3 c = search needs
+same-length-3 c = settled c .brought .kept .1 .1 .1 .0
 
 same-length-4 : tie.Need-same-length-4
-same-length-4 c = search needs
+same-length-4 c = settled c .brought .kept .1 .1 .1 .1 .0
 
 returns : tie.Need-returns
 returns c =
-    let settled = c .before .before .before .before .before .before .before .before in
-    let arrived = settled .before .before .before .before .before in
+    let arrived = settled c .before .before .before .before .before in
     let a = start arrived .args in
     let p = start arrived .pre in
-    let e = settled .brought .ensures in
+    let e = settled c .brought .ensures in
     let to = arrived .arrived .ensures in
     filled-did (p .0 .0) (a .s .0) (a .handle) (a .time) (p .0 .1) (e .0) (e .1) (to .0) (to .1) (to .2) (e .2) (p .1)
 

@@ -18,23 +18,30 @@ hand-requires c κs = search needs
 begun-requires : tie.Need-begun-requires
 begun-requires c κs = search needs
 
+-- from the end back to where the channel has begun anew
+abbrev anew : tie.After-slice-known6 → tie.After-begun
+anew c = c .before .before .before .before
+
+-- and from there to where the handles have come back
+abbrev emptied : tie.After-begun → tie.After-hand
+emptied c = c .before .before .before .before .before
+
 same-length : tie.Need-same-length
-same-length c = search needs
+same-length c = anew c .begun .kept .0
 
 same-length-2 : tie.Need-same-length-2
-same-length-2 c = search needs
+same-length-2 c = anew c .begun .kept .1 .0
 
 same-length-3 : tie.Need-same-length-3
-same-length-3 c = search needs
+same-length-3 c = emptied (anew c) .hand .kept .1 .1 .1 .1 .0
 
 returns : tie.Need-returns
 returns c =
-    let begun = c .before .before .before .before in
-    let emptied = begun .before .before .before .before .before in
-    let spanned = emptied .before .before in
+    let back = emptied (anew c) in
+    let spanned = back .before .before in
     let p = spanned .before .before .before .before .before .before .pre in
-    let up = begun .begun .ensures in
-    restarted-did (p .0 .0) (spanned .span .ensures) (emptied .hand .ensures) (p .1 .0) (p .1 .1) (up .head) (up .frame) (up .answer)
+    let up = anew c .begun .ensures in
+    restarted-did (p .0 .0) (spanned .span .ensures) (back .hand .ensures) (p .1 .0) (p .1 .1) (up .head) (up .frame) (up .answer)
 
 pub restarted-spec : {M : Type 1} → statement M
 restarted-spec =
