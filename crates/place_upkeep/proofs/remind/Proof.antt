@@ -1,5 +1,5 @@
 -- `remind` meets its contract: by the side on which the number lies (Reminders).
-use mathlib.Core.Path.{_≡_, ap, sym, _∙_}
+use mathlib.Core.Path.{_≡_, refl, ap, sym, _∙_}
 use borrow.Author.Tests.{not-true, not-false}
 use Rattle.ring.specs.Ring.{seen, Ahead}
 use Rattle.ring.proofs.Sides.{seen-far, seen-ahead, seen-behind}
@@ -60,7 +60,7 @@ noted-requires : tie.Need-noted-requires
 noted-requires c κs = search needs
 
 same-length : tie.Need-same-length
-same-length c = search needs
+same-length c = c .before .before .noted .kept .0
 
 returns-2 : tie.Need-returns-2
 returns-2 c =
@@ -87,28 +87,31 @@ reminded-requires c κs =
 counted-requires : tie.Need-counted-requires
 counted-requires c κs = search needs
 
+-- from the end back to where the numbers ahead are missing and M has settled
+abbrev done : tie.After-counted → tie.After-reminded
+done c = c .before .before .before .before .before .before .before .before .before
+
 same-length-2 : tie.Need-same-length-2
-same-length-2 c = search needs
+same-length-2 c = done c .reminded .kept .1 .0
 
 same-length-3 : tie.Need-same-length-3
-same-length-3 c = search needs
+same-length-3 c = refl
 
 same-length-4 : tie.Need-same-length-4
-same-length-4 c = search needs
+same-length-4 c = done c .reminded .kept .1 .1 .1 .0
 
 same-length-5 : tie.Need-same-length-5
-same-length-5 c = search needs
+same-length-5 c = done c .reminded .kept .1 .1 .1 .1 .0
 
 same-length-6 : tie.Need-same-length-6
-same-length-6 c = search needs
+same-length-6 c = done c .reminded .kept .1 .1 .1 .1 .1 .0
 
 returns-3 : tie.Need-returns-3
 returns-3 c =
-    let done = c .before .before .before .before .before .before .before .before .before in
-    let stepped = done .before in
+    let stepped = done c .before in
     let e = start (near stepped) in
     let a = e .args in
-    reminder-ahead (e .pre .0 .0) (a .time) (a .s .0) (ahead-by stepped) (done .reminded .ensures) (c .counted .ensures)
+    reminder-ahead (e .pre .0 .0) (a .time) (a .s .0) (ahead-by stepped) (done c .reminded .ensures) (c .counted .ensures)
 
 pub remind-spec : {M : Type 1} → statement M
 remind-spec =

@@ -53,10 +53,10 @@ remind-requires c κs =
     ((ready at, in-ring at), (room .up-room, room .nack-room))
 
 same-length : tie.Need-same-length
-same-length c = search needs
+same-length c = refl
 
 same-length-2 : tie.Need-same-length-2
-same-length-2 c = search needs
+same-length-2 c = refl
 
 returns : tie.Need-returns
 returns c =
@@ -65,23 +65,27 @@ returns c =
     let e = start judged in
     called-stopped (reminder (e .args .number)) refl (stopped-by (lent e) (lends e) (e .args .number) (e .args .time) (judged .judge .ensures) (stopped .n .given .1)) (c .refused .ensures)
 
+-- from the end back to where `remind` has done the work
+abbrev done : tie.After-slice-known11 → tie.After-remind
+done c = c .before .before .before .before .before .before .before .before .before .before
+
 same-length-3 : tie.Need-same-length-3
-same-length-3 c = search needs
+same-length-3 c = done c .remind .kept .1 .0
 
 same-length-4 : tie.Need-same-length-4
-same-length-4 c = search needs
+same-length-4 c = done c .remind .kept .1 .1 .0
 
 same-length-5 : tie.Need-same-length-5
-same-length-5 c = search needs
+same-length-5 c = done c .remind .kept .1 .1 .1 .0
 
 same-length-6 : tie.Need-same-length-6
-same-length-6 c = search needs
+same-length-6 c = done c .remind .kept .1 .1 .1 .1 .0
 
 same-length-7 : tie.Need-same-length-7
-same-length-7 c = search needs
+same-length-7 c = done c .remind .kept .1 .1 .1 .1 .1 .0
 
 returns-2 : tie.Need-returns-2
-returns-2 c = let done = c .before .before .before .before .before .before .before .before .before .before in called-reminder (opened (done .before .before .before .before .before .before .before)) (done .remind .ensures)
+returns-2 c = called-reminder (opened (done c .before .before .before .before .before .before .before)) (done c .remind .ensures)
 
 pub reminder-spec : {M : Type 1} → statement M
 reminder-spec =

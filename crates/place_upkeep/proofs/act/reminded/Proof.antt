@@ -1,6 +1,6 @@
 -- `reminded` meets its contract: what `widened` and `settle` leave is handed to the laws of the step ahead (StepAhead of place).
 use Prim.Native.Nat.{ℕ, _≤_, _<_}
-use mathlib.Core.Path.{refl}
+use mathlib.Core.Path.{refl, _∙_}
 use native.Mathlib.Omega.{arith}
 use Rattle.larq.specs.Channel.{window}
 use Rattle.place.proofs.Places.{finished}
@@ -30,33 +30,39 @@ widened-requires c κs = search needs
 settle-requires : tie.Need-settle-requires
 settle-requires c κs = search needs
 
+-- from the end back to where M has settled
+abbrev settled : tie.After-struct-known2 → tie.After-settle
+settled c = c .before .before .before .before .before .before
+
+-- and on to where C has come to s
+abbrev stepped-to : tie.After-struct-known2 → tie.After-widened
+stepped-to c = widened (settled c .before .before .before .before .before .before)
+
 add-t29 : tie.Need-add-t29
 add-t29 c =
-    let settled = c .before .before .before .before .before .before in
-    let w = widened (settled .before .before .before .before .before .before) in
+    let w = stepped-to c in
     let p = start w .pre in
     let wide = stepped (p .0 .0) (p .1 .1) (p .1 .0 .0) (p .1 .0 .1) (w .widened .ensures) in
     let sized = widened-sized (p .0 .0) (p .0 .1) (p .1 .1) (p .1 .0 .0) (p .1 .0 .1) wide in
-    record { fits = window-fits (gone-few (p .0 .0) (p .0 .1) (p .1 .1) (p .1 .0 .0) (p .1 .0 .1) wide refl refl (settled .settle .ensures .0) sized) }
+    record { fits = window-fits (gone-few (p .0 .0) (p .0 .1) (p .1 .1) (p .1 .0 .0) (p .1 .0 .1) wide refl refl (settled c .settle .ensures .0) sized) }
 
 same-length : tie.Need-same-length
-same-length c = search needs
+same-length c = settled c .settle .kept .1 .0 ∙ stepped-to c .widened .kept .1 .0
 
 same-length-2 : tie.Need-same-length-2
-same-length-2 c = search needs
+same-length-2 c = stepped-to c .widened .kept .1 .1 .1 .0
 
 same-length-3 : tie.Need-same-length-3
-same-length-3 c = search needs
+same-length-3 c = settled c .settle .kept .1 .1 .1 .1 .0 ∙ stepped-to c .widened .kept .1 .1 .1 .1 .0
 
 same-length-4 : tie.Need-same-length-4
-same-length-4 c = search needs
+same-length-4 c = stepped-to c .widened .kept .1 .1 .1 .1 .1 .0
 
 returns : tie.Need-returns
 returns c =
-    let settled = c .before .before .before .before .before .before in
-    let w = widened (settled .before .before .before .before .before .before) in
+    let w = stepped-to c in
     let p = start w .pre in
-    let e = settled .settle .ensures in
+    let e = settled c .settle .ensures in
     let wide = stepped (p .0 .0) (p .1 .1) (p .1 .0 .0) (p .1 .0 .1) (w .widened .ensures) in
     ahead-did (p .0 .0) (p .0 .1) (p .1 .1) (p .1 .0 .0) (p .1 .0 .1) wide refl refl
     (finished (widened-sized (p .0 .0) (p .0 .1) (p .1 .1) (p .1 .0 .0) (p .1 .0 .1) wide) (settle-room (p .0 .0) (p .0 .1) (p .1 .1) (p .1 .0 .0) (p .1 .0 .1) wide refl refl) (e .0) (e .1))
