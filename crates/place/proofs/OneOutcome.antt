@@ -1,4 +1,4 @@
--- The promise 'settled' for a call on an open place: its contract leaves nothing open. Any two outcomes that it allows for the same call give the
+-- The contract of a call on an open place leaves nothing open. Any two outcomes that it allows for the same call give the
 -- same answer, number and counts, and the same buffers, and leave the place alike: the very same parts where the call was refused or the place is
 -- freed, and else the same record, by which document 01 compares open places ('The channel table'). Assumes nothing.
 use Prim.Native.Nat.{ℕ}
@@ -39,9 +39,9 @@ answered-same u v =
     let nack = wrote-same (u .nack) (v .nack) in
     (rw (u .number, v .number, up .0, returned .0, nack .0, u .lost, v .lost) refl, rw (up .1, returned .1, nack .1) refl)
 
-pub settled : {act : Act ℕ} {time : ℕ} {before p q : Parts} {had has has′ : Buffers} {a b : Answer} → Called act time before p had has a
+pub one-call : {act : Act ℕ} {time : ℕ} {before p q : Parts} {had has has′ : Buffers} {a b : Answer} → Called act time before p had has a
     → Called act time before q had has′ b → SameOutcome (ruleAt before had time act .change) p q has has′ a b
-settled {act} {time} {before} {p} {q} {had} u v =
+one-call {act} {time} {before} {p} {q} {had} u v =
     let same = answered-same (u .answer) (v .answer) in
     record {
       answer = same .0;
