@@ -58,36 +58,42 @@ miss-requires c κs =
     let e = fits grown .enough in
     omega (arith, e .nack-room, asked-few (fits grown) (grown .grown .ensures))
 
+-- from the end back to where the numbers that s passes are missing
+abbrev missed : tie.After-struct-known → tie.After-miss
+missed c = c .before .before .before .before .before .before .before
+
+-- and from there to where the handles that M passes have gone up
+abbrev handed : tie.After-miss → tie.After-hand
+handed c = c .before .before .before .before .before .before
+
 sub-t15 : tie.Need-sub-t15
 sub-t15 c =
-    let missed = c .before .before .before .before .before .before .before in
-    let handed = missed .before .before .before .before .before .before in
-    let grown = handed .before .before .before in
-    handed-few (fits grown) (grown .grown .ensures) (handed .hand .ensures)
+    let up = handed (missed c) in
+    let grown = up .before .before .before in
+    handed-few (fits grown) (grown .grown .ensures) (up .hand .ensures)
 
 same-length : tie.Need-same-length
-same-length c = search needs
+same-length c = missed c .miss .kept .0
 
 same-length-2 : tie.Need-same-length-2
-same-length-2 c = search needs
+same-length-2 c = missed c .miss .kept .1 .0
 
 same-length-3 : tie.Need-same-length-3
-same-length-3 c = search needs
+same-length-3 c = handed (missed c) .hand .kept .1 .1 .1 .1 .0
 
 same-length-4 : tie.Need-same-length-4
-same-length-4 c = search needs
+same-length-4 c = missed c .miss .kept .1 .1 .0
 
 returns-2 : tie.Need-returns-2
 returns-2 c =
-    let missed = c .before .before .before .before .before .before .before in
-    let handed = missed .before .before .before .before .before .before in
-    let grown = handed .before .before .before in
+    let up = handed (missed c) in
+    let grown = up .before .before .before in
     record {
       taken = λ _. record {
         grown = grown .grown .ensures;
-        handed = handed-all (fits grown) (grown .grown .ensures) (handed .hand .ensures);
-        missed = missed .miss .ensures .1;
-        asked = missed .miss .ensures .0;
+        handed = handed-all (fits grown) (grown .grown .ensures) (up .hand .ensures);
+        missed = missed c .miss .ensures .1;
+        asked = missed c .miss .ensures .0;
         lost = refl;
       };
       left = λ e. not-both _ (can grown) e;
