@@ -29,24 +29,32 @@ accepted-requires c κs = search needs
 abbrev start : tie.After-span → tie.Start
 start c = c .before .before .before .before .before .before .before
 
+-- from the end back to where the words are zeros
+abbrev freed : tie.After-accepted → tie.After-zero-u64
+freed c = c .before .before .before .before .before .before .before .before .before .before .before
+
+-- and from there to where the handles have come back
+abbrev emptied : tie.After-zero-u64 → tie.After-hand
+emptied c = c .before .before .before .before
+
 same-length : tie.Need-same-length
-same-length c = search needs
+same-length c = freed c .zero-u64 .kept .0
 
 same-length-2 : tie.Need-same-length-2
-same-length-2 c = search needs
+same-length-2 c = c .before .before .before .before .before .before .before .zero-u32 .kept .0
 
 same-length-3 : tie.Need-same-length-3
-same-length-3 c = search needs
+same-length-3 c = c .before .before .before .zero-u8 .kept .0
 
 same-length-4 : tie.Need-same-length-4
-same-length-4 c = search needs
+same-length-4 c = emptied (freed c) .hand .kept .1 .1 .1 .1 .0
 
 returns : tie.Need-returns
 returns c =
-    let freed = c .before .before .before .before .before .before .before .before .before .before .before in
-    let given = freed .before .before .before .before .before .before in
-    let p = start given .pre in
-    closed-did (p .0) (given .span .ensures) (freed .before .before .before .before .hand .ensures) (p .1) (freed .zero-u64 .ensures)
+    let back = emptied (freed c) in
+    let spanned = back .before .before in
+    let p = start spanned .pre in
+    closed-did (p .0) (spanned .span .ensures) (back .hand .ensures) (p .1) (freed c .zero-u64 .ensures)
     (c .before .before .before .before .before .before .before .zero-u32 .ensures) (c .before .before .before .zero-u8 .ensures) (c .accepted .ensures)
 
 pub closed-spec : {M : Type 1} → statement M

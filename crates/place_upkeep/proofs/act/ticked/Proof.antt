@@ -22,20 +22,23 @@ settle-requires c κs = search needs
 accepted-requires : tie.Need-accepted-requires
 accepted-requires c κs = search needs
 
+-- from the end back to where M has settled
+abbrev settled : tie.After-accepted → tie.After-settle
+settled c = c .before .before .before .before .before
+
 same-length : tie.Need-same-length
-same-length c = search needs
+same-length c = settled c .settle .kept .1 .0
 
 same-length-2 : tie.Need-same-length-2
-same-length-2 c = search needs
+same-length-2 c = settled c .settle .kept .1 .1 .1 .1 .0
 
 returns : tie.Need-returns
 returns c =
-    let done = c .before .before .before .before .before in
-    let arrived = done .before .before .before .before in
+    let arrived = settled c .before .before .before .before in
     let start = arrived .before .before .before .before .before in
     let a = arrived .arrived .ensures in
-    let s = done .settle .ensures in
-    ticked-did (start .pre .0) (start .args .time) (done .before .stale-before .ensures) (a .0) (a .1) (a .2) (start .pre .1) (s .0) (s .1) (c .accepted .ensures)
+    let s = settled c .settle .ensures in
+    ticked-did (start .pre .0) (start .args .time) (settled c .before .stale-before .ensures) (a .0) (a .1) (a .2) (start .pre .1) (s .0) (s .1) (c .accepted .ensures)
 
 pub ticked-spec : {M : Type 1} → statement M
 ticked-spec =
