@@ -16,7 +16,7 @@ start c = c .before .before .before .before .before .before .before .before .bef
 widened-requires : tie.Need-widened-requires
 widened-requires c κs = search needs
 
--- from where the record is taken from what has widened back to there
+-- from where the record is taken out of the step back to where C has come to s
 abbrev widened : tie.After-g → tie.After-widened
 widened c = c .before .before .before .before .before .before .before .before .before
 

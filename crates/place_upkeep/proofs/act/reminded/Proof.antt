@@ -17,7 +17,7 @@ use Rattle.stepping.proofs.widened.Reads as widened-reads
 abbrev start : tie.After-widened → tie.Start
 start c = c .before .before .before .before .before .before .before .before .before .before
 
--- from where the record is taken from what has widened back to there
+-- from where the record is taken out of the step back to where C has come to s
 abbrev widened : tie.After-g → tie.After-widened
 widened c = c .before .before .before .before .before .before .before .before .before
 
