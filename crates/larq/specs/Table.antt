@@ -70,9 +70,13 @@ pub record Event (H : Type 0) : Type 0 where
   pub act : Act H
   pub lent : Lent
 
+-- the three buffers have an entry for each number of the window
+abbrev pub hasRoom : ℕ → ℕ → ℕ → ℕ → Bool
+hasRoom w up returned nack = leb w up && (leb w returned && leb w nack)
+
 -- number 1
 abbrev pub lentEnough : ℕ → Lent → Bool
-lentEnough w l = (leb w (l .up) && (leb w (l .returned) && leb w (l .nack))) && l .whole
+lentEnough w l = hasRoom w (l .up) (l .returned) (l .nack) && l .whole
 
 -- number 2
 abbrev pub numberInRing : {H : Type 0} → Act H → Bool

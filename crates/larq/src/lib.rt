@@ -1,7 +1,9 @@
-// The rules of the LARQ receiver: definitions under specs/, and what follows from them under proofs/. The house's constants are all the code.
+// The rules of the LARQ receiver: definitions under specs/, and what follows from them under proofs/. The house's constants, and the test of the
+// room that an answer may need, are all the code.
 ghost use mathlib.Core.Path.{_≡_};
 ghost use Rattle.larq.specs.Channel.{window};
 ghost use Rattle.larq.specs.Settling.{hold};
+ghost use Rattle.larq.specs.Table.{hasRoom};
 
 // The waiting window: 32 numbers (document 01, 'Numbers in a ring of 4,096').
 pub const WINDOW: u16 = 32;
@@ -23,4 +25,11 @@ pub fn hold() -> u64
     ensures { λ r. ⌜ r ≡ hold ⌝ }
 {
     HOLD
+}
+
+// Whether the three answer buffers have the room that any answer may need.
+pub fn has_room(up: usize, returned: usize, nack: usize) -> bool
+    ensures { λ r. ⌜ r ≡ hasRoom window up returned nack ⌝ }
+{
+    (ROOM <= up) & ((ROOM <= returned) & (ROOM <= nack))
 }

@@ -8,7 +8,7 @@ use native.Mathlib.Omega.{arith}
 use lib.Dec.{ltb}
 use lib.ListN.{length}
 use borrow.Author.Tests.{lt-ltb, le-ltb}
-use Rattle.ring.specs.Ring.{size, forward, next, steps, rising}
+use Rattle.ring.specs.Ring.{half, size, forward, next, steps, rising}
 use Rattle.ring.proofs.Steps.{forward-forward}
 use Rattle.larq.specs.Channel.{Channel}
 use Rattle.larq.specs.Settling.{Walked}
@@ -34,7 +34,7 @@ those-run test a (suc k) (suc g) h out in′ =
     rw (first, f) (rest ∙ ap (λ x. rising x (k - g)) (forward-next a g))
 
 -- k of d new numbers are made missing after the n from m to C, and then M passes some of the n + d
-pub asked-run : {H : Type 0} (c : Channel H) (p : Walked H) (m n k d past : ℕ) → n + d < 2048 → k ≤ d → past ≤ n + d
+pub asked-run : {H : Type 0} (c : Channel H) (p : Walked H) (m n k d past : ℕ) → n + d < half → k ≤ d → past ≤ n + d
     → next (c .current) ≡ forward m n → p .oldest ≡ forward m past → length (p .cells) ≡ n + d - past
     → asked c k p ≡ rising (forward (next (c .current)) (past - n)) (k - (past - n))
 unfolding asked

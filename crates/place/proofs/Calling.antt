@@ -13,8 +13,7 @@ use Rattle.larq.specs.Answer.{Change, Outcome, refused}
 use Rattle.larq.specs.Events.{Act, act-on}
 use Rattle.larq.specs.Table.{one, lentEnough, numberInRing, notBefore, reminderNear}
 use Rattle.record.specs.Place.{recordWith, recordOf}
-use Rattle.place.specs.Call.{Buffers, Parts, buffers, Answered, Became, Says, DidAt, Called, ruleAt}
-use Rattle.place.specs.Steps.{lentAt}
+use Rattle.place.specs.Call.{lentAt, Buffers, Parts, buffers, Answered, Became, Says, DidAt, Called, ruleAt}
 use Rattle.place.specs.declared.Answer.{Answer}
 use Rattle.record.specs.declared.Record.{Record}
 use Rattle.judging.proofs.Sounds.{sound-handles}

@@ -9,7 +9,7 @@ use native.Mathlib.Omega.{arith}
 use lib.ListN.{length, take, drop, replicate, length-append, length-replicate, length-drop}
 use lib.Seq.{drop-append-le}
 use borrow.Author.Tests.{le-ltb}
-use Rattle.ring.specs.Ring.{size, forward, next, steps, rising}
+use Rattle.ring.specs.Ring.{half, size, forward, next, steps, rising}
 use Rattle.ring.proofs.Steps.{forward-small, forward-forward, forward-steps}
 use Rattle.larq.specs.Channel.{Cell, missing, waiting, headMissing, reach, Channel}
 use Rattle.larq.specs.Settling.{Walked, walk, wide}
@@ -296,7 +296,7 @@ module _ {w c m s k n d over past count first : ℕ} {last : Last} (g : Grows w 
         ∙ ap (λ x. rising (forward (next x) (over + passes walk-again - n)) (k - (over + passes walk-again - n))) ec
         ∙ by-count count refl
       where
-        small : (w n d : ℕ) → w ≤ slots → n ≤ w → d ≤ reach w → n + d < 2048
+        small : (w n d : ℕ) → w ≤ slots → n ≤ w → d ≤ reach w → n + d < half
         small w n d a b e = omega arith
 
         most : (n d over r : ℕ) → over ≤ n + d → r ≤ n + d - over → over + r ≤ n + d

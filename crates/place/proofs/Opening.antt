@@ -16,9 +16,9 @@ use Rattle.larq.specs.Channel.{headMissing, sound, reach, waits, window}
 use Rattle.larq.specs.Table.{lentEnough, notBefore}
 use Rattle.slots.specs.Slots.{slotOf, currentIn, oldestIn, isMissing, handleAt}
 use Rattle.record.specs.Place.{cellsFrom, cellAt, spanOf, recordOf}
-use Rattle.place.specs.Call.{Parts, Buffers}
+use Rattle.place.specs.Call.{lentAt, Parts, Buffers}
 use Rattle.record.specs.Moving.{recordIn, spanIn}
-use Rattle.place.specs.Steps.{Ready, lentAt, testsAt, IsAhead, Waits, Missing}
+use Rattle.place.specs.Steps.{Ready, testsAt, IsAhead, Waits, Missing}
 use Rattle.judging.specs.Judge.{Judges, RefusedBy, OpenAt, inRing, inShape}
 use Rattle.record.specs.declared.Record.{Record}
 use Rattle.judging.specs.declared.Judged.{Judged}

@@ -8,9 +8,9 @@ use Rattle.ring.specs.Ring.{next}
 use Rattle.larq.specs.Channel.{window}
 use Rattle.larq.specs.Answer.{Change, same, holds, freed, Outcome}
 use Rattle.larq.specs.Events.{Act}
-use Rattle.larq.specs.Table.{Event, one}
-use Rattle.slots.specs.Slots.{slots, placeWords, placeSized, withHead}
-use Rattle.record.specs.Place.{recordOf}
+use Rattle.larq.specs.Table.{Lent, Event, one}
+use Rattle.slots.specs.Slots.{slots, placeWords, withHead}
+use Rattle.record.specs.Place.{recordOf, placeLent}
 use Rattle.record.specs.Buffers.{Wrote}
 use Rattle.place.specs.declared.Answer.{Answer}
 
@@ -60,20 +60,15 @@ Became same before after = after ≡ before
 Became (holds c) before after = recordOf (after .words) (after .handles) (after .marks) ≡ c
 Became freed before after = after ≡ parts (replicate placeWords 0) (replicate slots 0) (replicate slots 0)
 
+-- what is lent for a call
+abbrev pub lentAt : Parts → Buffers → Lent
+lentAt p b =
+    placeLent (length (p .words)) (length (p .handles)) (length (p .marks)) (length (b .up)) (length (b .returned)) (length (b .nack))
+
 -- an event at an open place, on its own: the key has no part in it
 abbrev pub eventAt : Parts → Buffers → ℕ → Act ℕ → Event ℕ
 eventAt p b time act =
-    record {
-      key = record { destination = 0; source = 0; priority = 0 };
-      time = time;
-      act = act;
-      lent = record {
-        up = length (b .up);
-        returned = length (b .returned);
-        nack = length (b .nack);
-        whole = placeSized (length (p .words)) (length (p .handles)) (length (p .marks));
-      };
-    }
+    record { key = record { destination = 0; source = 0; priority = 0 }; time = time; act = act; lent = lentAt p b }
 
 -- the rule for that event: the numbers 1, 2, 6, 7, 8 in their order, then what the event does
 abbrev pub ruleAt : Parts → Buffers → ℕ → Act ℕ → Outcome ℕ

@@ -11,16 +11,15 @@ use Rattle.larq.specs.Settling.{Walked}
 use Rattle.larq.specs.Channel as channel
 use Rattle.larq.specs.Answer.{Outcome, refused}
 use Rattle.larq.specs.Events.{moved, filling, filled, data-on, reminder-on, sideOf}
-use Rattle.larq.specs.Table.{Lent, notFar}
+use Rattle.larq.specs.Table.{notFar}
 use Rattle.slots.specs.Slots.{slots, slotOf, placeWords, isMissing, withHandle, withWaiting}
 use Rattle.record.specs.Place.{recordOf}
 use Rattle.record.specs.Buffers.{Laid}
 use Rattle.record.specs.Moving.{recordIn, spanIn}
-use Rattle.record.specs.Place.{placeLent}
 use Rattle.judging.specs.Judge.{common}
 use Rattle.record.specs.declared.Record.{Record}
 use Rattle.record.specs.Walk.{passes, walkFrom}
-use Rattle.place.specs.Call.{Parts, Buffers}
+use Rattle.place.specs.Call.{Parts, Buffers, lentAt}
 use Rattle.place.specs.declared.Answer.{Answer}
 use Rattle.stepping.specs.declared.Counts.{Counts}
 
@@ -39,11 +38,7 @@ pub record Ready (r : Record) (w h k : List ℕ) : Type 0 where
   pub narrow : spanIn r ≤ window
   pub head : 0 < spanIn r → isMissing k (slotOf (r .oldest .0)) ≡ true
 
--- what is lent for a call, and the tests that every event has, of its parts and buffers
-abbrev pub lentAt : Parts → Buffers → Lent
-lentAt p b =
-    placeLent (length (p .words)) (length (p .handles)) (length (p .marks)) (length (b .up)) (length (b .returned)) (length (b .nack))
-
+-- the tests that every event has, of its parts and buffers
 abbrev pub testsAt : Parts → Buffers → ℕ → ℕ → List Refusal
 testsAt p b s time = common (lentAt p b) s time (recordOf (p .words) [] (p .marks))
 

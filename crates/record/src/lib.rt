@@ -11,8 +11,8 @@ ghost use Rattle.record.specs.Moving.{IsGrown, storedIn};
 
 mod window;
 
-use larq::ROOM;
 use larq::WINDOW;
+use larq::has_room;
 use ring::Seq;
 use slots::is_place;
 use slots::set_head;
@@ -47,7 +47,7 @@ pub fn lent_enough(
 ) -> bool
     ensures { λ r. ⌜ r ≡ lentEnough window (placeLent words handles marks up returned nack) ⌝ }
 {
-    ((ROOM <= up) & ((ROOM <= returned) & (ROOM <= nack))) & is_place(words, handles, marks)
+    has_room(up, returned, nack) & is_place(words, handles, marks)
 }
 
 // By how much a exceeds b, or 0.

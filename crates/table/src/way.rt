@@ -1,9 +1,6 @@
 // Where an event goes, decided before anything is written: numbers 1 to 5 of document 01, 'Numbers the box may answer with', in its order.
 ghost use mathlib.Core.Path.{_≡_};
 ghost use lib.ListN.{length};
-ghost use lib.Dec.{leb};
-ghost use mathlib.Core.Bool.{_&&_};
-ghost use Rattle.larq.specs.Channel.{window};
 ghost use Rattle.table.specs.First.{firstPlace, stores, storesNone};
 ghost use Rattle.table.specs.Table.{whole};
 ghost use Rattle.table.specs.Way.{tableLent, earlyNumber, waySays, wayFor, dataWaySays, dataWayFor};
@@ -13,7 +10,7 @@ use crate::WORDS_IN_ALL;
 use crate::lookup::Found;
 use crate::lookup::find;
 use crate::lookup::find_free;
-use larq::ROOM;
+use larq::has_room;
 use ring::Seq;
 
 // To the place of its channel, or nowhere.
@@ -35,13 +32,6 @@ pub fn is_whole(keys: usize, words: usize, handles: usize, marks: usize) -> bool
 {
     (keys == KEYS_IN_ALL)
         & ((words == WORDS_IN_ALL) & ((handles == SLOTS_IN_ALL) & (marks == SLOTS_IN_ALL)))
-}
-
-// Whether the three answer buffers have the room that any answer may need.
-fn has_room(up: usize, returned: usize, nack: usize) -> bool
-    ensures { λ r. ⌜ r ≡ (leb window up && (leb window returned && leb window nack)) ⌝ }
-{
-    (ROOM <= up) & ((ROOM <= returned) & (ROOM <= nack))
 }
 
 // The numbers 1 to 3, or 0 where none of them applies.

@@ -30,10 +30,10 @@ same-length : tie.Need-same-length
 same-length c = anew c .begun .kept .0
 
 same-length-2 : tie.Need-same-length-2
-same-length-2 c = anew c .begun .kept .1 .0
+same-length-2 c = search needs
 
 same-length-3 : tie.Need-same-length-3
-same-length-3 c = emptied (anew c) .hand .kept .1 .1 .1 .1 .0
+same-length-3 c = search needs
 
 returns : tie.Need-returns
 returns c =

@@ -41,13 +41,13 @@ same-length : tie.Need-same-length
 same-length c = freed c .zero-u64 .kept .0
 
 same-length-2 : tie.Need-same-length-2
-same-length-2 c = c .before .before .before .before .before .before .before .zero-u32 .kept .0
+same-length-2 c = search needs
 
 same-length-3 : tie.Need-same-length-3
 same-length-3 c = c .before .before .before .zero-u8 .kept .0
 
 same-length-4 : tie.Need-same-length-4
-same-length-4 c = emptied (freed c) .hand .kept .1 .1 .1 .1 .0
+same-length-4 c = search needs
 
 returns : tie.Need-returns
 returns c =
