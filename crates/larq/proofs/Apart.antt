@@ -13,7 +13,8 @@ use Rattle.larq.specs.Answer.{Answer, Outcome, refused}
 use Rattle.larq.specs.Events.{Act, frame, reminder, tick, close}
 use Rattle.larq.specs.Table.{Key, sameKey, Table, channels, room, Event, lentEnough, numberInRing, priorityFits, isData, done, one, outcome, step}
 use Rattle.larq.specs.Run.{answers, eventsOf, answersTo}
-use Rattle.larq.specs.Demands.{full, justOne, AgreeButFull}
+use Rattle.larq.specs.Demands.{told, toldOf, full, justOne, AgreeButFull}
+use Rattle.larq.proofs.Cases.{told-decides}
 use Rattle.larq.proofs.Keys.{sameKey-eq, afterChange, step-own, step-other}
 
 -- an event, and whether a place was free when it came
@@ -100,18 +101,20 @@ module _ {H : Type 0} (w : ℕ) where
   one-meets false true cs e vs us ih =
       ⊎-elim (λ q. equal-meets cs (one w false cs e) (one w true cs e) vs us (sym q) ih) (λ q. rw (q .0, q .1) tt) (spare-or-full cs e)
 
-  solo-agrees : (cs : List (Channel H)) (vs us : List (View H)) → map (λ (v : View H). v .event) vs ≡ map (λ (v : View H). v .event) us
-      → AgreeButFull (solo w cs vs) (solo w cs us)
+  solo-agrees : (cs : List (Channel H)) (vs us : List (View H))
+      → map (told w) (map (λ (v : View H). v .event) vs) ≡ map (told w) (map (λ (v : View H). v .event) us) → AgreeButFull (solo w cs vs) (solo w cs us)
   unfolding Meets
   solo-agrees cs [] [] q = tt
   solo-agrees cs [] (u ∷ us) q = absurd (let z : _≡_ {A = ℕ} 0 1 = cc in omega arith)
   solo-agrees cs (v ∷ vs) [] q = absurd (let z : _≡_ {A = ℕ} 0 1 = cc in omega arith)
   solo-agrees cs (v ∷ vs) (u ∷ us) q =
-      let same-event : v .event ≡ u .event = cc in
-      rw same-event (one-meets (v .spare) (u .spare) cs (u .event) vs us (λ ds. solo-agrees ds vs us (cc)))
+      let same-told : told w (v .event) ≡ told w (u .event) = cc in
+      rw (told-decides w (v .spare) cs (v .event) (u .event) same-told) (one-meets (v .spare) (u .spare) cs (u .event) vs us (λ ds. solo-agrees ds vs us (cc)))
 
-  -- Two tables that agree on a key's records and two runs that agree on its events give it the same answers, but where just one of them has no place free
-  pub apart : (k : Key) (t u : Table H) (es fs : List (Event H)) → channels k t ≡ channels k u → eventsOf k es ≡ eventsOf k fs
+  -- Two tables that agree on a key's records, and two runs that agree on what is told in its events, give it the same answers, but where just one of
+  -- them has no place free
+  pub apart : (k : Key) (t u : Table H) (es fs : List (Event H)) → channels k t ≡ channels k u → toldOf w k es ≡ toldOf w k fs
       → AgreeButFull (answersTo k es (answers w t es)) (answersTo k fs (answers w u fs))
   apart k t u es fs q r =
-      rw (alone k t es, alone k u fs, q) (solo-agrees (channels k u) (views w k t es) (views w k u fs) (views-events k t es ∙ r ∙ sym (views-events k u fs)))
+      rw (alone k t es, alone k u fs, q)
+      (solo-agrees (channels k u) (views w k t es) (views w k u fs) (ap (map (told w)) (views-events k t es) ∙ r ∙ sym (ap (map (told w)) (views-events k u fs))))

@@ -1,6 +1,6 @@
 -- An event at a key, by cases: refused by a number above 0, or every test of the paper's table passes and the event is done. Assumes nothing.
 use Prim.Native.Nat.{ℕ, suc}
-use mathlib.Core.Path.{_≡_, refl}
+use mathlib.Core.Path.{_≡_, refl, ap}
 use mathlib.Core.Bool.{Bool, true, _||_}
 use mathlib.Core.List.{List}
 use native.Mathlib.Omega.{arith}
@@ -8,6 +8,7 @@ use Rattle.wire.proofs.ByCases.{answered-case, answered-good}
 use Rattle.larq.specs.Channel.{Channel, sound}
 use Rattle.larq.specs.Answer.{Outcome, refused}
 use Rattle.larq.specs.Table.{Event, one, done, refusals, lentEnough, numberInRing, priorityFits, isOpen, isData, ofRecord, notBefore, reminderNear}
+use Rattle.larq.specs.Demands.{Told, told}
 
 -- every test of the table passes
 pub record Passes {H : Type 0} (w : ℕ) (spare : Bool) (cs : List (Channel H)) (e : Event H) : Type 0 where
@@ -52,3 +53,9 @@ module _ {H : Type 0} (w : ℕ) (spare : Bool) (cs : List (Channel H)) (e : Even
     where
       never : (n : ℕ) → suc n ≡ 0 → ⊥
       never n q = omega arith
+
+-- two events of which the rules read the same have the same outcome
+pub told-decides : {H : Type 0} (w : ℕ) (spare : Bool) (cs : List (Channel H)) (e f : Event H) → told w e ≡ told w f → one w spare cs e ≡ one w spare cs f
+unfolding one
+told-decides {H} w spare cs e f q =
+    rw (ap (λ (x : Told H). x .enough) q, ap (λ (x : Told H). x .key) q, ap (λ (x : Told H). x .time) q, ap (λ (x : Told H). x .act) q)

@@ -8,15 +8,15 @@ use native.Mathlib.Omega.{arith}
 use Rattle.ring.specs.Ring.{rising, side, distance}
 use Rattle.larq.specs.Channel.{waits, missing, Channel, sound, window}
 use Rattle.larq.specs.Answer.{holds}
-use Rattle.larq.specs.Events.{Act, frame, reminder, tick, close, opened, asked, act-on}
-use Rattle.larq.specs.Table.{Key, sameKey, free, held, Table, Lent, Event, one, outcome, step}
+use Rattle.larq.specs.Events.{Act, frame, reminder, tick, close, asked, act-on}
+use Rattle.larq.specs.Table.{Key, sameKey, Table, Lent, Event, one, outcome, step}
 use Rattle.larq.specs.Run.{run, answers, eventsOf, answersTo, empty}
-use Rattle.larq.specs.Demands.{untilClosed, AgreeButFull, UpFirst}
+use Rattle.larq.specs.Demands.{toldOf, untilClosed, AgreeButFull, UpFirst}
 use Rattle.larq.specs.Moving.{entered, made, Moves, Bounded}
 use Rattle.larq.specs.Counts.{Sent, sent, reminded, strayed, Note, allUp}
 use Rattle.larq.proofs.Untouched.{Untouched, untouched}
 use Rattle.larq.proofs.Apart.{apart}
-use Rattle.larq.proofs.Restart.{FarFrame, NotOpen, Restarts, restart}
+use Rattle.larq.proofs.Restart.{FarFrame, BeginningFrame, NotOpen, Restarts, restart}
 use Rattle.larq.proofs.Sound.{Good}
 use Rattle.larq.proofs.Moved.{moves}
 use Rattle.larq.proofs.Bounds.{bounded}
@@ -26,6 +26,10 @@ use Rattle.larq.proofs.Kept.{KeptOnce, kept}
 
 abbrev enough : Lent
 enough = record { up = window; returned = window; nack = window; whole = true }
+
+-- more than enough
+abbrev plenty : Lent
+plenty = record { up = 64; returned = 40; nack = 33; whole = true }
 
 -- two channels
 abbrev mine : Key
@@ -59,7 +63,11 @@ is-far : FarFrame window table far-frame behind-11 [] 2000 3
 unfolding one outcome step sound sameKey act-on asked side distance
 is-far = record { is-open = refl; is-data = refl; is-accepted = refl; far = refl }
 
-not-open : NotOpen other far-frame
+-- the same frame, of a host that lends more
+abbrev lent-more : Event ℕ
+lent-more = record { key = mine; time = 102; act = frame 2000 3; lent = plenty }
+
+not-open : NotOpen other lent-more
 unfolding one outcome step sound sameKey act-on asked side distance
 not-open = record { none = refl; place = refl }
 
@@ -68,14 +76,14 @@ abbrev later : List (Event ℕ)
 later = at mine 103 (frame 2002 4) ∷ (at yours 103 (frame 8 8) ∷ (at mine 104 (frame 2001 5) ∷ (at mine 105 close ∷ [])))
 
 abbrev later-alone : List (Event ℕ)
-later-alone = at mine 103 (frame 2002 4) ∷ (at mine 104 (frame 2001 5) ∷ (at mine 105 close ∷ []))
+later-alone = at mine 103 (frame 2002 4) ∷ (record { key = mine; time = 104; act = frame 2001 5; lent = plenty } ∷ (at mine 105 close ∷ []))
 
-same-events : eventsOf mine later ≡ eventsOf mine later-alone
+same-told : toldOf window mine later ≡ toldOf window mine later-alone
 unfolding sameKey
-same-events = refl
+same-told = refl
 
-pub restart-met : Restarts window table other far-frame behind-11 3 later later-alone
-restart-met = restart window table other far-frame behind-11 [] 2000 3 is-far not-open later later-alone same-events
+pub restart-met : Restarts window table other far-frame lent-more behind-11 3 later later-alone
+restart-met = restart window table other far-frame lent-more refl behind-11 [] 2000 3 is-far not-open later later-alone same-told
 
 -- three answers are compared, and none is empty
 pub restart-content : untilClosed (eventsOf mine later) (answersTo mine later (answers window (step window table far-frame) later))
@@ -117,27 +125,34 @@ moves-met = moves window (omega arith) true behind-11 [] jump good refl
 pub bounded-met : Bounded window (one window true (behind-11 ∷ []) jump .answer)
 bounded-met = bounded window (omega arith) (omega arith) true (behind-11 ∷ []) jump (good, tt)
 
--- over the ring's edge: the frame of count 4,095 opened the channel, 4,097 comes before 4,096, between them a frame with the number 4,096, which is
--- refused, and then a reminder of 4,098
+-- over the ring's edge, from the empty table: the frame of count 4,095 opens the channel, 4,097 comes before 4,096, between them a frame with the number
+-- 4,096, which is refused, and then a reminder of 4,098
 abbrev note : ℕ → Sent (ℕ × ℕ) → Note (ℕ × ℕ)
 note t s = record { time = t; lent = enough; what = s }
 
 abbrev notes : List (Note (ℕ × ℕ))
 notes = note 101 (sent (4097, 7)) ∷ (note 101 (strayed 0 (0, 9)) ∷ (note 102 (sent (4096, 7)) ∷ (note 103 (reminded 4098) ∷ [])))
 
+abbrev first : Event ℕ
+first = at mine 100 (frame 4095 7)
+
 abbrev over-the-edge : List (Event ℕ)
 over-the-edge =
     at mine 101 (frame 1 7)
     ∷ (at yours 101 (frame 3 3) ∷ (at mine 101 (frame 4096 9) ∷ (at mine 102 (frame 0 7) ∷ (at mine 103 (reminder 2) ∷ []))))
 
--- the host gave both frames the same handle, and by the sender's counts 4,096 went up before 4,097
-pub own-order-met : OwnOrder window mine 4095 100 notes (untilClosed (eventsOf mine over-the-edge) (answersTo mine over-the-edge (answers window (held mine (opened 4095 100) ∷ (free ∷ [])) over-the-edge)))
+begins : BeginningFrame window empty first 4095 7
+unfolding one outcome step sound sameKey act-on asked side distance
+begins = record { is-data = refl; is-accepted = refl; anew = tt }
+
+-- the host gave all three frames the same handle, and by the sender's counts 4,095 went up before 4,096, and this before 4,097
+pub own-order-met : OwnOrder window empty first 4095 7 notes over-the-edge
 unfolding one outcome step sound sameKey act-on asked side distance
 own-order-met =
-    own-order window (omega arith) mine (held mine (opened 4095 100) ∷ (free ∷ [])) 4095 100 [] refl over-the-edge notes refl
+    own-order window (omega arith) empty first 4095 7 begins over-the-edge notes refl
     (λ _. (omega arith, omega arith), (λ _. tt, (λ _. (omega arith, omega arith), (λ _. (omega arith, omega arith), tt))))
 
-pub own-order-content : allUp (answersTo mine over-the-edge (answers window (held mine (opened 4095 100) ∷ (free ∷ [])) over-the-edge)) ≡ 7 ∷ (7 ∷ [])
+pub own-order-content : allUp (answersTo mine (first ∷ over-the-edge) (answers window empty (first ∷ over-the-edge))) ≡ 7 ∷ (7 ∷ (7 ∷ []))
 unfolding one outcome step sound sameKey act-on asked side distance
 own-order-content = refl
 

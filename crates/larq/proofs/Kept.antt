@@ -13,14 +13,11 @@ use Rattle.larq.specs.Table.{Event}
 use Rattle.larq.specs.Run.{run, answers, empty}
 use Rattle.larq.specs.Counts.{allUp}
 use Rattle.larq.specs.Calls.{allReturned, waitingIn, indexedAct, indexedEvent, indexed, occurrences, IsData, AcceptedData}
-use Rattle.larq.proofs.Renamed.{on-answer, on-act, on-event, on-table, answers-renamed, run-renamed}
+use Rattle.larq.specs.Renaming.{on-answer, on-act, on-event, on-table, own}
+use Rattle.larq.proofs.Renamed.{answers-renamed, run-renamed}
 use Rattle.larq.proofs.Weights.{given, allGiven, total, total-append, run-level}
 
 module _ {A : Type 0} where
-  -- the handle without the index
-  abbrev pub own : ℕ × A → A
-  own x = x .1
-
   -- how much of call j a handle is
   abbrev is : ℕ → ℕ × A → ℕ
   is j x = cond (eqb (x .0) j) 1 0

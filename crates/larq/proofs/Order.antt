@@ -17,7 +17,7 @@ use Rattle.larq.specs.Channel.{Cell, waits, missing, Channel, waiting, r
 use Rattle.larq.specs.Settling.{Walked, walk, wide, stale}
 use Rattle.larq.specs.Answer.{Change, same, holds, freed, Outcome, refused, accepted}
 use Rattle.larq.specs.Events.{opened, taken, grown, settledAt, after, filling, filled, data-on, reminder-on, sideOf, act-on}
-use Rattle.larq.specs.Table.{Key, Table, channels, Event, one, numberInRing}
+use Rattle.larq.specs.Table.{Key, Table, channels, Event, one, outcome, step, numberInRing}
 use Rattle.larq.specs.Run.{answers, eventsOf, answersTo}
 use Rattle.larq.specs.Demands.{untilClosed}
 use Rattle.larq.specs.Counts.{Sent, sent, reminded, strayed, strayReminded, ticked, closed, Note, actOf, eventOfNote, Near, NearBy, raised, Within, Rising, allUp, numbers}
@@ -26,7 +26,7 @@ use Rattle.larq.proofs.Untouched.{act-accepts}
 use Rattle.larq.proofs.Walk.{Passed, walk-passes}
 use Rattle.larq.proofs.Orderly.{OnSome}
 use Rattle.larq.proofs.Sound.{Sound, sound-is}
-use Rattle.larq.proofs.Restart.{onward, until, from-record}
+use Rattle.larq.proofs.Restart.{onward, until, from-record, BeginningFrame, beginning-leaves}
 
 -- what the side of a count tells, where it is within the reach of hi
 abbrev NearSide : ℕ → ℕ → Side → Type 0
@@ -257,13 +257,12 @@ module _ {H : Type 0} (count : H → ℕ) where
   opened-numbered : (u t : ℕ) → Numbered (suc u) u (opened (u % size) t)
   opened-numbered u t = record { current = refl; oldest = next-mod u; span = omega arith; counts = tt }
 
-  -- From an opening or a restart of k by the frame of count u, and whatever comes on other channels: as long as no frame or reminder of k is
-  -- accepted more than the reach away from the highest before, what k hands up until its close rises strictly by count, past u
-  pub order : (w : ℕ) → w < 1024 → (k : Key) (t : Table H) (u time : ℕ) (cs : List (Channel H)) → channels k t ≡ opened (u % size) time ∷ cs
+  -- from the record of a channel that the frame of count u has just opened
+  pub order-opened : (w : ℕ) → w < 1024 → (k : Key) (t : Table H) (u time : ℕ) (cs : List (Channel H)) → channels k t ≡ opened (u % size) time ∷ cs
       → (es : List (Event H)) (ns : List (Note H)) → eventsOf k es ≡ map (eventOfNote count k) ns
       → Within count w u ns (numbers (untilClosed (eventsOf k es) (answersTo k es (answers w t es))))
       → Rising count (suc u) (allUp (untilClosed (eventsOf k es) (answersTo k es (answers w t es))))
-  order w half k t u time cs e es ns v q =
+  order-opened w half k t u time cs e es ns v q =
       rw here (climbs .1)
     where
       c : Channel H
@@ -277,3 +276,13 @@ module _ {H : Type 0} (count : H → ℕ) where
           let r : (top : ℕ) × Climbs (suc u) top (allUp (until w c (map (eventOfNote count k) ns)))
           = run-climbs w half k (suc u) u c (opened-numbered u time) ns (rw here at q) in
           (r .0, Climbs-rising (suc u) (r .0) (allUp (until w c (map (eventOfNote count k) ns))) (r .1))
+
+  -- A frame of count u opens or restarts its channel. From this event on, and whatever comes on other channels: as long as no frame or reminder of the
+  -- channel is accepted more than the reach away from the highest before, what the channel hands up until its close rises strictly by count, from u on
+  pub order : (w : ℕ) → w < 1024 → (t : Table H) (e : Event H) (h : H) → BeginningFrame w t e (count h % size) h
+      → (es : List (Event H)) (ns : List (Note H)) → eventsOf (e .key) es ≡ map (eventOfNote count (e .key)) ns
+      → Within count w (count h) ns (numbers (untilClosed (eventsOf (e .key) es) (answersTo (e .key) es (answers w (step w t e) es))))
+      → Rising count (count h) (outcome w t e .answer .up ++ allUp (untilClosed (eventsOf (e .key) es) (answersTo (e .key) es (answers w (step w t e) es))))
+  order w half t e h is es ns v q =
+      let left = beginning-leaves w t e (count h % size) h is in
+      rw (left .up) (omega arith, order-opened w half (e .key) (step w t e) (count h) (e .time) (left .others) (left .records) es ns v q)

@@ -11,13 +11,14 @@ use Rattle.larq.specs.Events.{opened}
 use Rattle.larq.specs.Table.{Key, held, Table, channels, Event}
 use Rattle.larq.specs.Run.{answers, eventsOf, answersTo}
 use Rattle.larq.specs.Demands.{untilClosed}
-use Rattle.larq.specs.Counts.{Note, eventOfNote, Within, Rising, allUp, numbers}
-use Rattle.larq.proofs.Order.{order}
+use Rattle.larq.specs.Counts.{countOf, marked, Note, eventOfNote, Within, Rising, allUp, numbers}
+use Rattle.larq.proofs.Order.{order-opened}
 use Rattle.larq.specs.Answer.{Change, same, holds, freed}
 use Rattle.larq.specs.Table.{one, outcome, step}
 use Rattle.larq.proofs.Keys.{sameKey-refl}
-use Rattle.larq.proofs.Restart.{onward, until, from-record}
-use Rattle.larq.proofs.Renamed.{on-channel, on-change, on-answer, on-event, one-renamed}
+use Rattle.larq.proofs.Restart.{onward, until, from-record, BeginningFrame, beginning-leaves}
+use Rattle.larq.specs.Renaming.{on-channel, on-change, on-answer, on-event, own}
+use Rattle.larq.proofs.Renamed.{one-renamed}
 
 -- what a record decides, with every handle renamed
 until-renamed : {A B : Type 0} (f : A → B) (w : ℕ) (c : Channel A) (es : List (Event A)) → until w (on-channel f c) (map (on-event f) es) ≡ map (on-answer f) (until w c es)
@@ -46,17 +47,6 @@ module _ {H : Type 0} (count : H → ℕ) (k : Key) where
   answers-all w t (n ∷ ns) = rw (sameKey-refl k) (ap (λ l. outcome w t (eventOfNote count k n) .answer ∷ l) (answers-all w (step w t (eventOfNote count k n)) ns))
 
 module _ {A : Type 0} where
-  -- a handle beside the sender's count of its frame
-  abbrev pub countOf : ℕ × A → ℕ
-  countOf x = x .0
-
-  abbrev pub own : ℕ × A → A
-  own x = x .1
-
-  -- the answers of a box that has this channel alone, to the marked events, until the close
-  abbrev pub marked : ℕ → Key → Channel (ℕ × A) → List (Note (ℕ × A)) → List (Answer (ℕ × A))
-  marked w k c ns = untilClosed (map (eventOfNote countOf k) ns) (answers w (held k c ∷ []) (map (eventOfNote countOf k) ns))
-
   marked-until : (w : ℕ) (k : Key) (c : Channel (ℕ × A)) (ns : List (Note (ℕ × A))) → marked w k c ns ≡ until w c (map (eventOfNote countOf k) ns)
   marked-until w k c ns =
       ap (untilClosed (map (eventOfNote countOf k) ns)) (sym (answers-all countOf k w (held k c ∷ []) ns))
@@ -65,16 +55,16 @@ module _ {A : Type 0} where
       ∙ ap (until w c) (events-all countOf k ns)
 
   -- what the box answers, rs, is what the marked run answers with the marks taken off; and by the marks what goes up rises strictly
-  pub record OwnOrder (w : ℕ) (k : Key) (u time : ℕ) (ns : List (Note (ℕ × A))) (rs : List (Answer A)) : Type 0 where
-    pub answers : rs ≡ map (on-answer own) (marked w k (opened (u % size) time) ns)
-    pub rising : Rising countOf (suc u) (allUp (marked w k (opened (u % size) time) ns))
+  record Opened (w : ℕ) (k : Key) (u time : ℕ) (ns : List (Note (ℕ × A))) (rs : List (Answer A)) : Type 0 where
+    answers : rs ≡ map (on-answer own) (marked w k (opened (u % size) time) ns)
+    rising : Rising countOf (suc u) (allUp (marked w k (opened (u % size) time) ns))
 
-  pub own-order : (w : ℕ) → w < 1024 → (k : Key) (t : Table A) (u time : ℕ) (cs : List (Channel A)) → channels k t ≡ opened (u % size) time ∷ cs
+  own-opened : (w : ℕ) → w < 1024 → (k : Key) (t : Table A) (u time : ℕ) (cs : List (Channel A)) → channels k t ≡ opened (u % size) time ∷ cs
       → (es : List (Event A)) (ns : List (Note (ℕ × A))) → eventsOf k es ≡ map (on-event own) (map (eventOfNote countOf k) ns)
       → Within countOf w u ns (numbers (untilClosed (eventsOf k es) (answersTo k es (answers w t es))))
-      → OwnOrder w k u time ns (untilClosed (eventsOf k es) (answersTo k es (answers w t es)))
-  own-order w half k t u time cs e es ns v q =
-      record { answers = unmarked; rising = rw one-channel (order countOf w half k (held k c ∷ []) u time [] (rw (sameKey-refl k)) ms ns (events-all countOf k ns) near) }
+      → Opened w k u time ns (untilClosed (eventsOf k es) (answersTo k es (answers w t es)))
+  own-opened w half k t u time cs e es ns v q =
+      record { answers = unmarked; rising = rw one-channel (order-opened countOf w half k (held k c ∷ []) u time [] (rw (sameKey-refl k)) ms ns (events-all countOf k ns) near) }
     where
       c : Channel (ℕ × A)
       c = opened (u % size) time
@@ -96,3 +86,21 @@ module _ {A : Type 0} where
 
       near : Within countOf w u ns (numbers (untilClosed (eventsOf k ms) (answersTo k ms (answers w (held k c ∷ []) ms))))
       near = rw (← one-channel, ← numbers-renamed own (marked w k c ns), ← unmarked) q
+
+  -- The frame e has the handle a and the count u, and begins its channel: it alone goes up. What the box answers to the channel's later events, until its
+  -- close, is what a box answers that has this channel alone, on handles marked with their counts, with the marks taken off; and by the marks what goes
+  -- up rises strictly, past u
+  pub record OwnOrder (w : ℕ) (t : Table A) (e : Event A) (u : ℕ) (a : A) (ns : List (Note (ℕ × A))) (es : List (Event A)) : Type 0 where
+    pub first : outcome w t e .answer .up ≡ a ∷ []
+    pub answers : untilClosed (eventsOf (e .key) es) (answersTo (e .key) es (answers w (step w t e) es))
+        ≡ map (on-answer own) (marked w (e .key) (opened (u % size) (e .time)) ns)
+    pub rising : Rising countOf (suc u) (allUp (marked w (e .key) (opened (u % size) (e .time)) ns))
+
+  pub own-order : (w : ℕ) → w < 1024 → (t : Table A) (e : Event A) (u : ℕ) (a : A) → BeginningFrame w t e (u % size) a
+      → (es : List (Event A)) (ns : List (Note (ℕ × A))) → eventsOf (e .key) es ≡ map (on-event own) (map (eventOfNote countOf (e .key)) ns)
+      → Within countOf w u ns (numbers (untilClosed (eventsOf (e .key) es) (answersTo (e .key) es (answers w (step w t e) es))))
+      → OwnOrder w t e u a ns es
+  own-order w half t e u a is es ns v q =
+      let left = beginning-leaves w t e (u % size) a is in
+      let later = own-opened w half (e .key) (step w t e) u (e .time) (left .others) (left .records) es ns v q in
+      record { first = left .up; answers = later .answers; rising = later .rising }

@@ -56,6 +56,10 @@ module _ {H : Type 0} (w : ℕ) where
       one-case w spare cs e (λ (o : Outcome H). (o .answer .number ≡ 0 → ⊥) → o ≡ refused (o .answer .number)) (λ n _. refl)
       (λ p q. absurd (q (done-accepts spare cs e p)))
 
+  pub refused-outcome : (t : Table H) (e : Event H) → (outcome w t e .answer .number ≡ 0 → ⊥) → outcome w t e ≡ refused (outcome w t e .answer .number)
+  unfolding outcome
+  refused-outcome t e q = refused-as (room t) (channels (e .key) t) e q
+
   -- a refused call: its lists are empty and nothing is lost, and the table is as it was
   pub record Untouched (t : Table H) (e : Event H) : Type 0 where
     pub answer : outcome w t e .answer ≡ record { number = outcome w t e .answer .number; up = []; returned = []; nack = []; lost = 0 }

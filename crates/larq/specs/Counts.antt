@@ -2,13 +2,15 @@
 use Prim.Native.Nat.{ℕ, suc, _+_, _%_, _≤_, max}
 use mathlib.Core.Path.{_≡_}
 use mathlib.Core.Bool.{cond}
-use mathlib.Core.List.{List, [], _∷_, _++_}
+use mathlib.Core.List.{List, [], _∷_, _++_, map}
 use lib.Dec.{eqb}
 use Rattle.ring.specs.Ring.{size}
-use Rattle.larq.specs.Channel.{reach}
+use Rattle.larq.specs.Channel.{Channel, reach}
 use Rattle.larq.specs.Answer.{Answer}
 use Rattle.larq.specs.Events.{Act, frame, reminder, tick, close}
-use Rattle.larq.specs.Table.{Key, Lent, Event}
+use Rattle.larq.specs.Table.{Key, held, Lent, Event}
+use Rattle.larq.specs.Run.{answers}
+use Rattle.larq.specs.Demands.{untilClosed}
 
 -- what comes on a channel: a frame, whose handle tells its count; a reminder with a count; either of them with no number of the ring, but with one
 -- that is so much above 4,095; and the host's own events
@@ -78,3 +80,11 @@ allUp (r ∷ rs) = r .up ++ allUp rs
 abbrev pub numbers : {H : Type 0} → List (Answer H) → List ℕ
 numbers [] = []
 numbers (r ∷ rs) = r .number ∷ numbers rs
+
+-- the count that a handle is marked with
+abbrev pub countOf : {A : Type 0} → ℕ × A → ℕ
+countOf x = x .0
+
+-- the answers of a box that has this channel alone, to events whose handles are marked with the counts of their frames, until the close
+abbrev pub marked : {A : Type 0} → ℕ → Key → Channel (ℕ × A) → List (Note (ℕ × A)) → List (Answer (ℕ × A))
+marked w k c ns = untilClosed (map (eventOfNote countOf k) ns) (answers w (held k c ∷ []) (map (eventOfNote countOf k) ns))

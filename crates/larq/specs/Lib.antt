@@ -6,6 +6,7 @@ pub mod Table
 pub mod Run
 pub mod Demands
 pub mod Moving
+pub mod Renaming
 pub mod Counts
 pub mod Calls
 pub mod Edges

@@ -12,4 +12,6 @@ pub mod Events
 pub mod Unique
 pub mod Running
 pub mod Lent
+pub mod Demands
 pub mod Instances
+pub mod Chain

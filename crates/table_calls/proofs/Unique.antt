@@ -6,6 +6,7 @@ use mathlib.Core.Path.{_≡_, sym, _∙_}
 use Rattle.larq.specs.Answer.{Change, same, holds, freed, Outcome, refused}
 use Rattle.larq.specs.Channel.{window}
 use Rattle.larq.specs.Table.{Key, Event, outcome}
+use Rattle.larq.proofs.Untouched.{refused-outcome}
 use Rattle.place.specs.Call.{Buffers, Answered}
 use Rattle.place.specs.declared.Answer.{Answer}
 use Rattle.table.specs.Addressed.{addressed}
@@ -69,11 +70,33 @@ unique e before x y had has having r q f g =
       elsewhere = λ j h ne. f .elsewhere j h ne ∙ sym (g .elsewhere j h ne);
     }
 
--- a refusal leaves every word of every slice as it was
-pub untouched : (e : Event ℕ) (before x : Slices) (had has : Buffers) (r : Answer) (n : ℕ)
-    → Did e before x had has r → outcome window (tableOf before) e ≡ refused n → (x ≡ before) × (has ≡ had)
-untouched e before x had has r n f o =
-    let answered : Answered (refused n) had has r = rw o at (f .answer) in (
-      rw o at (f .changed),
-      λ i. record { up = answered .up .buffer i; returned = answered .returned .buffer i; nack = answered .nack .buffer i },
-    )
+-- a refusal leaves every word of every slice and buffer as it was, and all counts are 0
+pub record Untouched (before after : Slices) (had has : Buffers) (given : Answer) : Type 0 where
+  pub table : after ≡ before
+  pub buffers : has ≡ had
+  pub up : given .up ≡ 0
+  pub returned : given .returned ≡ 0
+  pub nack : given .nack ≡ 0
+  pub lost : given .lost ≡ 0
+
+-- whatever call gave the host a number that is not 0
+pub untouched : (e : Event ℕ) (before after : Slices) (had has : Buffers) (given : Answer) → Did e before after had has given → (given .number ≡ 0 → ⊥)
+    → Untouched before after had has given
+untouched e before after had has given f some =
+    record {
+      table = rw is at (f .changed);
+      buffers = λ i. record { up = answered .up .buffer i; returned = answered .returned .buffer i; nack = answered .nack .buffer i };
+      up = answered .up .count;
+      returned = answered .returned .count;
+      nack = answered .nack .count;
+      lost = answered .lost;
+    }
+  where
+    n : ℕ
+    n = outcome window (tableOf before) e .answer .number
+
+    is : outcome window (tableOf before) e ≡ refused n
+    is = refused-outcome window (tableOf before) e (λ none. some (f .answer .number ∙ none))
+
+    answered : Answered (refused n) had has given
+    answered = rw is at (f .answer)

@@ -3,3 +3,4 @@ pub mod Look
 pub mod Event
 pub mod Writes
 pub mod Calls
+pub mod Demands
