@@ -71,12 +71,12 @@ not-open : NotOpen other lent-more
 unfolding one outcome step sound sameKey act-on asked side distance
 not-open = record { none = refl; place = refl }
 
--- after it: a gap, its fill and my close, and in one run yours goes on
+-- after it: a gap, its fill, my close and an opening, and in one run yours goes on
 abbrev later : List (Event ℕ)
-later = at mine 103 (frame 2002 4) ∷ (at yours 103 (frame 8 8) ∷ (at mine 104 (frame 2001 5) ∷ (at mine 105 close ∷ [])))
+later = at mine 103 (frame 2002 4) ∷ (at yours 103 (frame 8 8) ∷ (at mine 104 (frame 2001 5) ∷ (at mine 105 close ∷ (at mine 106 (frame 9 6) ∷ []))))
 
 abbrev later-alone : List (Event ℕ)
-later-alone = at mine 103 (frame 2002 4) ∷ (record { key = mine; time = 104; act = frame 2001 5; lent = plenty } ∷ (at mine 105 close ∷ []))
+later-alone = at mine 103 (frame 2002 4) ∷ (record { key = mine; time = 104; act = frame 2001 5; lent = plenty } ∷ (at mine 105 close ∷ (at mine 106 (frame 9 6) ∷ [])))
 
 same-told : toldOf window mine later ≡ toldOf window mine later-alone
 unfolding sameKey
@@ -85,7 +85,7 @@ same-told = refl
 pub restart-met : Restarts window table other far-frame lent-more behind-11 3 later later-alone
 restart-met = restart window table other far-frame lent-more refl behind-11 [] 2000 3 is-far not-open later later-alone same-told
 
--- three answers are compared, and none is empty
+-- three answers are compared, up to the close
 pub restart-content : untilClosed (eventsOf mine later) (answersTo mine later (answers window (step window table far-frame) later))
     ≡ record { number = 0; up = []; returned = []; nack = 2001 ∷ []; lost = 0 }
     ∷ (record { number = 0; up = 5 ∷ (4 ∷ []); returned = []; nack = []; lost = 0 } ∷ (record { number = 0; up = []; returned = []; nack = []; lost = 0 } ∷ []))

@@ -45,6 +45,10 @@ at s = held (key 0) (opened s 100)
 abbrev other : Place ℕ
 other = held (key 1) (opened 7 100)
 
+-- keys that differ from this one in one part each
+abbrev others : Table ℕ
+others = held (record { destination = 3; source = 2; priority = 0 }) (opened 7 100) ∷ (held (record { destination = 1; source = 3; priority = 0 }) (opened 7 100) ∷ (other ∷ []))
+
 -- tables of one place: C is 10, M is 11; the same, with a latest time after the event's; and any record of this key
 abbrev mine : Table ℕ
 mine = at 10 ∷ []
@@ -100,13 +104,13 @@ firsts =
     ∷ (refuses (stores (left 10 4096 100 [])) (plain (reminder 75)) 6
     ∷ (refuses late (plain (reminder 75)) 7 ∷ []))))))))))
 
--- none applies: at the last priority, number and distance that pass; the first free place; and the first of two places with one key
+-- none applies: at the last priority, number and distance that pass; the first free place, behind channels that differ in one part of the key; and the first of two places with one key
 abbrev passes : List Case
 passes =
     accepts (free ∷ []) (event enough 7 (frame 4095 1)) (held (key 7) (opened 4095 100) ∷ [])
     ∷ (accepts mine (plain (reminder 74)) (stores (left 74 43 100 (replicate 32 (missing 100))))
     ∷ (accepts mine (plain (reminder 4042)) mine
-    ∷ (accepts (other ∷ (free ∷ (free ∷ []))) (plain (frame 10 1)) (other ∷ (at 10 ∷ (free ∷ [])))
+    ∷ (accepts (others ++ (free ∷ (free ∷ []))) (plain (frame 10 1)) (others ++ (at 10 ∷ (free ∷ [])))
     ∷ (accepts (other ∷ (at 10 ∷ (at 20 ∷ []))) (plain (frame 11 1)) (other ∷ (at 11 ∷ (at 20 ∷ [])))
     ∷ (accepts (other ∷ (at 10 ∷ (at 20 ∷ []))) (plain close) (other ∷ (free ∷ (at 20 ∷ []))) ∷ [])))))
 
