@@ -2,7 +2,7 @@
 -- Document 01, 'The channel table' and 'Numbers the box may answer with'.
 use Prim.Native.Nat.{ℕ}
 use mathlib.Core.Bool.{Bool, true, false, cond, _&&_, _||_, not}
-use mathlib.Core.List.{List, [], _∷_}
+use mathlib.Core.List.{List, [], _∷_, _++_}
 use lib.Dec.{leb, eqb}
 use Rattle.wire.specs.Refusals.{Refusal, _else_, answered}
 use Rattle.ring.specs.Ring.{isNumber, Side, isFar}
@@ -121,15 +121,21 @@ reminderNear w (reminder s) c = notFar (sideOf w c s)
 reminderNear w tick c = true
 reminderNear w close c = true
 
--- the refusals of channel events, in the paper's order; `cs` are the records of the event's key, `spare` says that a place is free
+-- The refusals of channel events, in the paper's order. They are written here alone: what decides some of them cites its part of the list.
+
+-- numbers 1 to 3, before the table is looked at
+abbrev pub early : {H : Type 0} → ℕ → Event H → List Refusal
+early w e = (lentEnough w (e .lent) else 1) ∷ ((numberInRing (e .act) else 2) ∷ ((priorityFits (e .key) else 3) ∷ []))
+
+-- then 4 and 5, before a record is looked at: `known` says that the event's key has a record, `spare` that a place is free
+abbrev pub wayRefusals : {H : Type 0} → ℕ → Bool → Bool → Event H → List Refusal
+wayRefusals w known spare e = early w e ++ ((known || isData (e .act) else 4) ∷ ((known || spare else 5) ∷ []))
+
+-- then 6 to 8; `cs` are the records of the event's key
 abbrev pub refusals : {H : Type 0} → ℕ → Bool → List (Channel H) → Event H → List Refusal
 refusals w spare cs e =
-    (lentEnough w (e .lent) else 1)
-    ∷ ((numberInRing (e .act) else 2)
-    ∷ ((priorityFits (e .key) else 3)
-    ∷ ((isOpen cs || isData (e .act) else 4)
-    ∷ ((isOpen cs || spare else 5)
-    ∷ ((ofRecord (sound w) cs else 6) ∷ ((ofRecord (notBefore (e .time)) cs else 7) ∷ ((ofRecord (reminderNear w (e .act)) cs else 8) ∷ [])))))))
+    wayRefusals w (isOpen cs) spare e
+    ++ ((ofRecord (sound w) cs else 6) ∷ ((ofRecord (notBefore (e .time)) cs else 7) ∷ ((ofRecord (reminderNear w (e .act)) cs else 8) ∷ [])))
 
 -- what an event does that no number refuses: data opens a channel where the key has none
 abbrev pub done : {H : Type 0} → ℕ → List (Channel H) → ℕ → Act H → Outcome H
