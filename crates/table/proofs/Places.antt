@@ -8,10 +8,11 @@ use native.Mathlib.Omega.{arith}
 use borrow.Author.Tests.{eq-eqb, ne-eqb}
 use lib.Dec.{eqb}
 use Rattle.larq.specs.Channel.{Channel}
-use Rattle.larq.specs.Table.{Key, Place, free, held, Table, channels, room, putOpen, putFree}
+use Rattle.larq.specs.Table.{Key, sameKey, Place, free, held, Table, channels, isOpen, room, putOpen, putFree}
 use Rattle.table.specs.First.{firstFrom}
 use Rattle.table.specs.Table.{placesFrom}
 use Rattle.table.specs.Addressed.{isOf, isFree}
+use Rattle.table.specs.Way.{isFound}
 use Rattle.table.specs.declared.lookup.Found.{Found}
 use Rattle.table.specs.declared.lookup.Found.the-variants.{At, Nothing}
 
@@ -103,6 +104,21 @@ module _ (k : Key) where
       go true f later = absurd (let z : _≡_ {A = ℕ} 0 1 = cc (rw f at e) in let y : ⊥ = omega arith in y)
       go false f later = passed (place i) (placesFrom place (suc i) n) f ∙ later (rw f at e)
 
+  open-is : (q : Place ℕ) (t : Table ℕ) (i : ℕ) (f : Found) → isOpen (channels k t) ≡ isFound f → isOpen (channels k (q ∷ t)) ≡ isFound (cond (isOf k q) (At i) f)
+  open-is free t i f e = e
+  open-is (held j c) t i f e = go (sameKey j k)
+    where
+      go : (b : Bool) → isOpen (cond b (c ∷ channels k t) (channels k t)) ≡ isFound (cond b (At i) f)
+      go true = refl
+      go false = e
+
+  -- a key has a record exactly if a walk finds its place
+  pub open-is-found : (place : ℕ → Place ℕ) (n i : ℕ) → isOpen (channels k (placesFrom place i n)) ≡ isFound (firstFrom (λ x. isOf k (place x)) i n)
+  unfolding firstFrom placesFrom
+  open-is-found place zero i = refl
+  open-is-found place (suc n) i =
+      open-is (place i) (placesFrom place (suc i) n) i (firstFrom (λ x. isOf k (place x)) (suc i) n) (open-is-found place n (suc i))
+
   putOpen-past : (p q : Place ℕ) (t : Table ℕ) → isOf k q ≡ false → putOpen k p (q ∷ t) ≡ q ∷ putOpen k p t
   putOpen-past p free t e = refl
   putOpen-past p (held j c) t e = rw e
@@ -127,26 +143,19 @@ pub putFree-found : (place : ℕ → Place ℕ) (p : Place ℕ) (n i at : ℕ) �
     → putFree p (placesFrom place i n) ≡ placesFrom (but place at p) i n
 putFree-found place p = put-found isFree putFree putFree-past putFree-here place p
 
--- a place is free, or none is
-spare : Found → Bool
-spare (At i) = true
-spare Nothing = false
-
-room-is : (q : Place ℕ) (t : Table ℕ) (i : ℕ) (f : Found) → room t ≡ spare f → room (q ∷ t) ≡ spare (cond (isFree q) (At i) f)
-unfolding spare
+room-is : (q : Place ℕ) (t : Table ℕ) (i : ℕ) (f : Found) → room t ≡ isFound f → room (q ∷ t) ≡ isFound (cond (isFree q) (At i) f)
 room-is free t i f e = refl
 room-is (held j c) t i f e = e
 
-room-spare : (place : ℕ → Place ℕ) (n i : ℕ) → room (placesFrom place i n) ≡ spare (firstFrom (λ x. isFree (place x)) i n)
-unfolding firstFrom placesFrom spare
-room-spare place zero i = refl
-room-spare place (suc n) i =
-    room-is (place i) (placesFrom place (suc i) n) i (firstFrom (λ x. isFree (place x)) (suc i) n) (room-spare place n (suc i))
+-- a place is free exactly if a walk finds one
+pub room-is-found : (place : ℕ → Place ℕ) (n i : ℕ) → room (placesFrom place i n) ≡ isFound (firstFrom (λ x. isFree (place x)) i n)
+unfolding firstFrom placesFrom
+room-is-found place zero i = refl
+room-is-found place (suc n) i =
+    room-is (place i) (placesFrom place (suc i) n) i (firstFrom (λ x. isFree (place x)) (suc i) n) (room-is-found place n (suc i))
 
 pub room-found : (place : ℕ → Place ℕ) (n i at : ℕ) → firstFrom (λ x. isFree (place x)) i n ≡ At at → room (placesFrom place i n) ≡ true
-unfolding spare
-room-found place n i at e = room-spare place n i ∙ rw e
+room-found place n i at e = room-is-found place n i ∙ rw e
 
 pub room-none : (place : ℕ → Place ℕ) (n i : ℕ) → firstFrom (λ x. isFree (place x)) i n ≡ Nothing → room (placesFrom place i n) ≡ false
-unfolding spare
-room-none place n i e = room-spare place n i ∙ rw e
+room-none place n i e = room-is-found place n i ∙ rw e

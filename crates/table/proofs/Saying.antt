@@ -23,7 +23,7 @@ abbrev tests : Bool → Bool → Bool → List Refusal
 tests a b c = (a else 1) ∷ ((b else 2) ∷ ((c else 3) ∷ []))
 
 by-tests : (a b c : Bool) (place : Found) → waySays (wayBy (first (tests a b c)) place)
-    ≡ answered refused (tests a b c ++ ((isFound place else 4) ∷ [])) (accepted (placesOf place))
+    ≡ answered refused (tests a b c ++ ((isFound place || false else 4) ∷ ((isFound place || false else 5) ∷ []))) (accepted (placesOf place))
 unfolding wayBy
 by-tests false b c place = refl
 by-tests true false c place = refl
@@ -37,7 +37,7 @@ unfolding earlyNumber
 way-says l number priority place = by-tests (lentEnough window l) (leb number 4095) (leb priority 7) place
 
 data-by-tests : (a b c : Bool) (place spare : Found) → dataWaySays (dataWayBy (wayBy (first (tests a b c)) place) spare)
-    ≡ answered refused (tests a b c ++ ((isFound place || isFound spare else 5) ∷ [])) (accepted (leadsTo place spare))
+    ≡ answered refused (tests a b c ++ ((isFound place || true else 4) ∷ ((isFound place || isFound spare else 5) ∷ []))) (accepted (leadsTo place spare))
 unfolding wayBy dataWayBy
 data-by-tests false b c place spare = refl
 data-by-tests true false c place spare = refl

@@ -8,16 +8,17 @@ use borrow.Author.Tests.{eqb-true, eqb-false, eq-eqb, ne-eqb}
 use lib.ListN.{getD}
 use lib.Dec.{eqb}
 use Rattle.larq.specs.Channel.{Channel}
-use Rattle.larq.specs.Table.{Key, sameKey, Place, free, held}
+use Rattle.larq.specs.Table.{Key, sameKey, Place, free, held, channels, isOpen, room}
 use Rattle.slots.specs.Slots.{slots, placeWords}
 use Rattle.record.specs.Place.{recordOf}
 use Rattle.table.specs.First.{firstPlace, stores, storesNone, places}
 use Rattle.table.specs.Key.{firstWord, storedKey, keyWords}
-use Rattle.table.specs.Table.{Slices, slices, part, placeOf, placeAt, zeros}
-use Rattle.table.specs.Way.{placeFor}
+use Rattle.table.specs.Table.{Slices, slices, part, placeOf, placeAt, tableOf, zeros}
+use Rattle.table.specs.Way.{placeFor, isFound}
 use Rattle.table.specs.Addressed.{isOf, isFree}
 use Rattle.table.proofs.First.{same}
 use Rattle.table.proofs.Parts.{part-at}
+use Rattle.table.proofs.Places.{open-is-found, room-is-found}
 use Rattle.table.proofs.Ways.{both}
 
 -- the key of a first word and a source
@@ -114,6 +115,13 @@ place-is s k h = same (stores (s .keys) (firstWord k) (k .source)) (λ i. isOf k
 
 pub spare-is : (s : Slices) → firstPlace (storesNone (s .keys)) ≡ firstPlace (λ i. isFree (placeAt s i))
 spare-is s = same (storesNone (s .keys)) (λ i. isFree (placeAt s i)) (λ i. storesNone-is s i) places 0
+
+-- so what numbers 4 and 5 are judged by is so of the table that the slices hold: the key has a record, and a place is free
+pub known-is-open : (s : Slices) (k : Key) → k .priority ≤ 7 → isFound (placeFor (s .keys) k) ≡ isOpen (channels k (tableOf s))
+known-is-open s k h = ap isFound (place-is s k h) ∙ sym (open-is-found k (placeAt s) places 0)
+
+pub spare-is-room : (s : Slices) → isFound (firstPlace (storesNone (s .keys))) ≡ room (tableOf s)
+spare-is-room s = ap isFound (spare-is s) ∙ sym (room-is-found (placeAt s) places 0)
 
 -- zeros are a free place
 pub zeros-free : placeOf zeros ≡ free

@@ -1,13 +1,13 @@
 -- Where an event goes: to a place, or nowhere, by a number that no record has a part in.
 -- Document 01, 'Numbers the box may answer with', 1 to 5.
 use Prim.Native.Nat.{ℕ}
-use mathlib.Core.List.{List, [], _∷_, _++_}
-use mathlib.Core.Bool.{Bool, true, false, _||_}
-use Rattle.wire.specs.Refusals.{Refusal, _else_, first, answered}
+use mathlib.Core.List.{List, [], _∷_}
+use mathlib.Core.Bool.{Bool, true, false}
+use Rattle.wire.specs.Refusals.{first, answered}
 use Rattle.wire.specs.Answers.{Said, accepted, refused}
-use Rattle.ring.specs.Ring.{isNumber}
 use Rattle.larq.specs.Channel.{window}
-use Rattle.larq.specs.Table.{Key, Lent, lentEnough, isPriority}
+use Rattle.larq.specs.Events.{Act, frame, reminder}
+use Rattle.larq.specs.Table.{Key, Lent, Event, early, wayRefusals}
 use Rattle.table.specs.First.{firstPlace, stores}
 use Rattle.table.specs.Key.{firstWord}
 use Rattle.table.specs.Table.{whole}
@@ -20,13 +20,13 @@ abbrev pub tableLent : ℕ → ℕ → ℕ → ℕ → ℕ → ℕ → ℕ → L
 tableLent keys words handles marks up returned nack =
     record { up = up; returned = returned; nack = nack; whole = whole keys words handles marks }
 
--- the tests of numbers 1 to 3, which are made before the table is looked at
-abbrev pub early : Lent → ℕ → ℕ → List Refusal
-early l number priority = (lentEnough window l else 1) ∷ ((isNumber number else 2) ∷ ((isPriority priority else 3) ∷ []))
+-- an event as far as numbers 1 to 5 see it: its addresses tell its place, which is looked up, and its time and handle have no part in them
+abbrev pub eventBy : Lent → ℕ → Act Unit → Event Unit
+eventBy l priority act = record { key = record { destination = 0; source = 0; priority = priority }; time = 0; act = act; lent = l }
 
--- the number that they lead to, or 0
+-- the number that 1 to 3 lead to, or 0: data and a reminder are alike in it, and a tick and a close are judged as a reminder with number 0
 unfoldable pub earlyNumber : Lent → ℕ → ℕ → ℕ
-earlyNumber l number priority = first (early l number priority)
+earlyNumber l number priority = first (early window (eventBy l priority (reminder number)))
 
 -- the first place that stores a key
 abbrev pub placeFor : List ℕ → Key → Found
@@ -58,17 +58,16 @@ abbrev pub leadsTo : Found → Found → List ℕ
 leadsTo (Found.At i) spare = 0 ∷ (i ∷ [])
 leadsTo Found.Nothing spare = 1 ∷ placesOf spare
 
--- the refusals of a reminder, tick or close, and those of data, that no record has a part in; `place` is the key's, `spare` the free one
-abbrev pub wayRefusals : Lent → ℕ → ℕ → Found → List Refusal
-wayRefusals l number priority place = early l number priority ++ ((isFound place else 4) ∷ [])
+-- What is to be said of an event by the rules' list of numbers 1 to 5. `place` is the key's and `spare` the free one: that they are found says of the
+-- table what the list asks of it (`known-is-open`, `spare-is-room` of proofs/Stored).
 
-abbrev pub dataWayRefusals : Lent → ℕ → ℕ → Found → Found → List Refusal
-dataWayRefusals l number priority place spare = early l number priority ++ ((isFound place || isFound spare else 5) ∷ [])
-
--- what is to be said of where such an event goes: the first number that refuses it, or the place of its channel
+-- of a reminder, tick or close: the first number that refuses it, or the place of its channel. That a place is free has no part in it, since
+-- number 4 comes before number 5
 abbrev pub wayFor : Lent → ℕ → ℕ → Found → Said
-wayFor l number priority place = answered refused (wayRefusals l number priority place) (accepted (placesOf place))
+wayFor l number priority place =
+    answered refused (wayRefusals window (isFound place) false (eventBy l priority (reminder number))) (accepted (placesOf place))
 
--- and of where data goes
+-- of data: that number, or the place of its channel or the free one
 abbrev pub dataWayFor : Lent → ℕ → ℕ → Found → Found → Said
-dataWayFor l number priority place spare = answered refused (dataWayRefusals l number priority place spare) (accepted (leadsTo place spare))
+dataWayFor l number priority place spare =
+    answered refused (wayRefusals window (isFound place) (isFound spare) (eventBy l priority (frame number tt))) (accepted (leadsTo place spare))

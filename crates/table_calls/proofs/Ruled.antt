@@ -2,35 +2,36 @@
 -- no channel, no free place, a channel opened, or the rule for the one place that has the channel. Assumes nothing.
 use Prim.Native.Nat.{ℕ}
 use mathlib.Core.Path.{_≡_, ap, sym, _∙_}
-use mathlib.Core.Bool.{Bool, true, false, _&&_}
-use mathlib.Core.List.{List, [], _∷_}
+use mathlib.Core.Bool.{Bool, true, false, cond, _&&_}
+use mathlib.Core.List.{List, [], _∷_, _++_}
 use lib.ListN.{length, drop}
 use lib.Dec.{leb}
-use Rattle.wire.specs.Refusals.{Refusal, _else_, first, answered}
+use Rattle.wire.specs.Refusals.{Refusal, first, answered}
 use Rattle.larq.specs.Channel.{Channel, window}
 use Rattle.larq.specs.Answer.{holds, freed, refused, accepted}
-use Rattle.larq.specs.Events.{Act, frame, opened}
-use Rattle.larq.specs.Table.{Key, free, held, Table, Event, channels, room, lentEnough, numberInRing, priorityFits, isData, refusals, done, one, outcome, step}
+use Rattle.larq.specs.Events.{Act, frame, reminder, opened}
+use Rattle.larq.specs.Table.{Key, free, held, Table, Event, channels, room, lentEnough, numberInRing, isData, early, refusals, done, one, outcome, step}
 use Rattle.slots.specs.Slots.{slots, placeWords, placeSized}
 use Rattle.record.specs.Place.{recordOf}
 use Rattle.place.specs.Call.{Parts, parts, Buffers, eventAt, ruleAt}
 use Rattle.table.specs.First.{places, firstPlace}
 use Rattle.table.specs.Table.{Slices, part, placeAt, placesFrom, tableOf}
-use Rattle.table.specs.Way.{earlyNumber}
+use Rattle.table.specs.Way.{eventBy, earlyNumber}
 use Rattle.table.specs.Addressed.{isOf, isFree}
 use Rattle.table_calls.specs.Event.{eventOf}
 use Rattle.table.specs.declared.lookup.Found.the-variants.{At, Nothing}
 use Rattle.table.proofs.Places.{but, Begins, channels-found, channels-none, putOpen-found, putFree-found, room-found, room-none}
 use Rattle.table.proofs.Ways.{Passed, both}
 
--- the first three tests decide where their number is not 0
-decided : {A : Type 0} (refuse : ℕ → A) (x y z : Bool) (l : List Refusal) (good : A) (n : ℕ)
-    → first ((x else 1) ∷ ((y else 2) ∷ ((z else 3) ∷ []))) ≡ n → (n ≡ 0 → ⊥)
-    → answered refuse ((x else 1) ∷ ((y else 2) ∷ ((z else 3) ∷ l))) good ≡ refuse n
-decided refuse true true true l good n e ne = absurd (ne (sym e))
-decided refuse true true false l good n e ne = rw e
-decided refuse true false z l good n e ne = rw e
-decided refuse false y z l good n e ne = rw e
+-- the first tests of a list decide where their number is not 0
+decided : {A : Type 0} (refuse : ℕ → A) (l m : List Refusal) (good : A) (n : ℕ) → first l ≡ n → (n ≡ 0 → ⊥) → answered refuse (l ++ m) good ≡ refuse n
+decided refuse [] m good n e ne = absurd (ne (sym e))
+decided refuse (r ∷ l) m good n e ne = go (r .passes) e (λ q. decided refuse l m good n q ne)
+  where
+    go : (b : Bool) → cond b (first l) (r .number) ≡ n → (first l ≡ n → answered refuse (l ++ m) good ≡ refuse n)
+        → cond b (answered refuse (l ++ m) good) (refuse (r .number)) ≡ refuse n
+    go true q later = later q
+    go false q later = ap refuse q
 
 -- the parts of a place, as the call on one place has them
 abbrev pub partsAt : ℕ → Slices → Parts
@@ -50,7 +51,7 @@ module _ (s : Slices) (b : Buffers) (k : Key) (time : ℕ) (act : Act ℕ) (numb
   unfolding earlyNumber outcome one
   early-refused n j ne =
       rw numbered
-      (decided refused (lentEnough window (e .lent)) (leb number 4095) (priorityFits k) (drop 3 (refusals window (room t) (channels k t) e))
+      (decided refused (early window (eventBy (e .lent) (k .priority) (reminder number))) (drop 3 (refusals window (room t) (channels k t) e))
       (done window (channels k t) time act) n j ne)
 
   -- the tests of numbers 1 to 3 pass
