@@ -2,21 +2,23 @@
 use Prim.Native.Nat.{ℕ, _≤_, _<_}
 use mathlib.Core.Path.{_≡_, refl, ap, sym, _∙_}
 use mathlib.Core.Logic.{⊎-elim}
-use mathlib.Core.Bool.{Bool, true, false, cond, and-self}
-use mathlib.Core.List.{List}
+use mathlib.Core.Bool.{Bool, true, false, cond, _||_, and-self}
+use mathlib.Core.List.{List, [], _∷_}
 use native.Mathlib.Omega.{arith}
 use borrow.Author.Tests.{leb-true}
 use lib.Dec.{leb}
-use lib.ListN.{length}
-use Rattle.larq.specs.Channel.{window}
-use Rattle.larq.specs.Table.{Key, Lent, lentEnough, priorityFits, channels}
+use lib.ListN.{length, take}
+use Rattle.wire.specs.Refusals.{first}
+use Rattle.larq.specs.Channel.{Channel, window, sound}
+use Rattle.larq.specs.Events.{tick}
+use Rattle.larq.specs.Table.{Key, Table, Lent, lentEnough, priorityFits, channels, isOpen, ofRecord, room, refusals}
 use Rattle.slots.specs.Slots.{slots, placeWords}
 use Rattle.record.specs.Place.{recordOf}
 use Rattle.table.specs.First.{places, stores}
 use Rattle.table.specs.Key.{firstWord}
 use Rattle.table.specs.Table.{Slices, slices, part, placeAt, tableOf, tableWords, tableSlots}
 use Rattle.table.specs.Way.{tableLent, earlyNumber, placeFor}
-use Rattle.table_calls.specs.Look.{unseen, shownAt, shownFirst, shownOf, lentFor, Looked}
+use Rattle.table_calls.specs.Look.{unseen, shownSound, shownAt, shownFirst, shownOf, lentFor, Looked}
 use Rattle.table_calls.specs.declared.looking.View.{View}
 use Rattle.table.specs.declared.lookup.Found.the-variants.{At, Nothing}
 use Rattle.table.specs.declared.way.Way.{Way}
@@ -24,6 +26,22 @@ use Rattle.table.proofs.Parts.{lent, lent-part}
 use Rattle.table.proofs.Places.{channels-found, channels-none, finds}
 use Rattle.table.proofs.Stored.{own-place, place-is}
 use Rattle.table.proofs.Ways.{wayBy, Passed, judged-passed, whole-sizes, lent-whole, lent-room, known-way, refused-way}
+
+-- the numbers of a look are the first six of the rules' list for an event that has no number and is no data, whenever it comes
+pub look-refusals : (l : Lent) (k : Key) (time : ℕ) (t : Table ℕ) → shownOf (lentEnough window l) k t .number
+    ≡ first (take 6 (refusals window (room t) (channels k t) (record { key = k; time = time; act = tick; lent = l })))
+look-refusals l k time t = go (lentEnough window l) (priorityFits k) (channels k t)
+  where
+    by-record : (b : Bool) (c : Channel ℕ) → cond b (shownSound c) (unseen 6) .number ≡ cond b 0 6
+    by-record true c = refl
+    by-record false c = refl
+
+    go : (a b : Bool) (cs : List (Channel ℕ)) → cond a (cond b (shownFirst cs) (unseen 3)) (unseen 1) .number
+        ≡ cond a (cond b (cond (isOpen cs || false) (cond (isOpen cs || room t) (cond (ofRecord (sound window) cs) 0 6) 5) 4) 3) 1
+    go false b cs = refl
+    go true false cs = refl
+    go true true [] = refl
+    go true true (c ∷ cs) = by-record (sound window c) c
 
 -- an answer that tells a number and nothing else
 abbrev pub Refuses : ℕ → View → Type 0
