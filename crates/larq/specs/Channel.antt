@@ -27,10 +27,14 @@ pub record Channel (H : Type 0) : Type 0 where
   pub latest : ℕ
   pub cells : List (Cell H)
 
--- the span: C + 1 - M modulo 4,096. It is the count of the cells in every record that a lent table holds, broken or not (`lent-span` of
+-- the span: C + 1 - M modulo 4,096
+abbrev pub spanOf : ℕ → ℕ → ℕ
+spanOf c m = steps m (next c)
+
+-- a record's span. It is the count of the cells in every record that a lent table holds, broken or not (`lent-span` of
 -- table_calls/proofs/Lent), and in all that runs from the empty table make (`good-span` of proofs/Sound)
 abbrev pub span : {H : Type 0} → Channel H → ℕ
-span c = steps (c .oldest) (next (c .current))
+span c = spanOf (c .current) (c .oldest)
 
 -- the waiting handles, in sequence order
 abbrev pub waiting : {H : Type 0} → List (Cell H) → List H
