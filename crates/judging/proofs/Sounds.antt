@@ -9,10 +9,10 @@ use lib.ListN.{length}
 use borrow.Author.Tests.{le-leb, lt-leb, leb-true, eq-eqb, eqb-true}
 use Rattle.wire.proofs.Joined.{and-left, and-right}
 use Rattle.ring.specs.Ring.{next, size}
-use Rattle.larq.specs.Channel.{waits, missing, headMissing, times, orderly, sound, window}
+use Rattle.larq.specs.Channel.{waits, missing, headMissing, times, orderly, sound, window, spanOf}
 use Rattle.larq.specs.Channel as channel
 use Rattle.slots.specs.Slots.{slots, slotOf, placeWords, currentIn, oldestIn, latestIn, isMissing, timeAt, handleAt}
-use Rattle.record.specs.Place.{cellsFrom, cellAt, spanOf, recordWith, recordOf, soundAt}
+use Rattle.record.specs.Place.{cellsFrom, cellAt, recordWith, recordOf, soundAt}
 use Rattle.judging.specs.Judge.{timesOf, inRing, shapely, inShape}
 use Rattle.record.proofs.Windows.{cells-from-none, cells-from-suc, length-cells-from, cell-waits, cell-missing}
 

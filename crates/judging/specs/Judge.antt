@@ -7,11 +7,11 @@ use mathlib.Core.Logic.{_⊎_}
 use lib.ListN.{length}
 use lib.Dec.{leb}
 use Rattle.wire.specs.Refusals.{Refusal, _else_, first}
-use Rattle.larq.specs.Channel.{window, reach, Cell, Channel, headMissing, times, orderly, sound}
+use Rattle.larq.specs.Channel.{window, reach, Cell, Channel, headMissing, times, orderly, sound, spanOf}
 use Rattle.ring.specs.Ring.{isNumber, steps, seen, Ahead, Behind, Far}
 use Rattle.larq.specs.Table.{Lent, lentEnough, notBefore}
 use Rattle.slots.specs.Slots.{slotOf, currentIn, oldestIn, latestIn, isMissing}
-use Rattle.record.specs.Place.{cellsFrom, cellAt, spanOf, recordOf}
+use Rattle.record.specs.Place.{cellsFrom, cellAt, recordOf}
 use Rattle.record.specs.Moving.{spanIn}
 use Rattle.record.specs.declared.Record.{Record}
 use Rattle.judging.specs.declared.Judged.{Judged}

@@ -11,11 +11,11 @@ use lib.Seq.{drop-append-le}
 use borrow.Author.Tests.{le-ltb}
 use Rattle.ring.specs.Ring.{half, size, forward, next, steps, rising}
 use Rattle.ring.proofs.Steps.{forward-small, forward-forward, forward-steps}
-use Rattle.larq.specs.Channel.{Cell, missing, waiting, headMissing, reach, Channel}
+use Rattle.larq.specs.Channel.{Cell, missing, waiting, headMissing, reach, Channel, spanOf}
 use Rattle.larq.specs.Settling.{Walked, walk, wide}
 use Rattle.larq.specs.Events.{asked}
 use Rattle.slots.specs.Slots.{slots, slotOf, isMissing}
-use Rattle.record.specs.Place.{cellsFrom, cellAt, spanOf}
+use Rattle.record.specs.Place.{cellsFrom, cellAt}
 use Rattle.record.specs.Walk.{earlier, passes, waitingOf}
 use Rattle.slots.proofs.Stores.{mark-stores}
 use Rattle.stepping.specs.Step.{timesMissing, marksMissing}

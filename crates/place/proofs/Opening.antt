@@ -12,10 +12,10 @@ use Rattle.wire.specs.Refusals.{first, _else_}
 use Rattle.ring.specs.Ring.{next, steps, seen, Ahead, size}
 use Rattle.ring.proofs.Sides.{Seen, sees}
 use Rattle.larq.specs.Channel as channel
-use Rattle.larq.specs.Channel.{headMissing, sound, reach, waits, window}
+use Rattle.larq.specs.Channel.{headMissing, sound, reach, waits, window, spanOf}
 use Rattle.larq.specs.Table.{lentEnough, notBefore}
 use Rattle.slots.specs.Slots.{slotOf, currentIn, oldestIn, isMissing, handleAt}
-use Rattle.record.specs.Place.{cellsFrom, cellAt, spanOf, recordOf}
+use Rattle.record.specs.Place.{cellsFrom, cellAt, recordOf}
 use Rattle.place.specs.Call.{lentAt, Parts, Buffers}
 use Rattle.record.specs.Moving.{recordIn, spanIn}
 use Rattle.place.specs.Steps.{Ready, testsAt, IsAhead, Waits, Missing}

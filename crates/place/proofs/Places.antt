@@ -6,11 +6,11 @@ use mathlib.Core.List.{List}
 use native.Mathlib.Omega.{arith}
 use lib.ListN.{length}
 use Rattle.ring.specs.Ring.{size, forward}
-use Rattle.larq.specs.Channel.{Cell}
+use Rattle.larq.specs.Channel.{Cell, spanOf}
 use Rattle.larq.specs.Settling.{walk}
 use Rattle.larq.specs.Events.{moved, taken}
 use Rattle.slots.specs.Slots.{slotOf, currentIn, oldestIn, withHead, withLatest, timesFrom}
-use Rattle.record.specs.Place.{cellsFrom, cellAt, spanOf, recordWith, recordOf}
+use Rattle.record.specs.Place.{cellsFrom, cellAt, recordWith, recordOf}
 use Rattle.record.specs.Moving.{spanIn, storedIn}
 use Rattle.record.specs.Walk.{earlier, passes, Settles, settleNumbers}
 use Rattle.record.proofs.Settling.{settles-all}

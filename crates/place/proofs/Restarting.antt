@@ -5,10 +5,10 @@ use mathlib.Core.List.{List, []}
 use native.Mathlib.Omega.{arith}
 use lib.ListN.{length, set}
 use Rattle.ring.specs.Ring.{next}
-use Rattle.larq.specs.Channel.{waiting, window}
+use Rattle.larq.specs.Channel.{waiting, window, spanOf}
 use Rattle.larq.specs.Events.{restarted, opened}
 use Rattle.slots.specs.Slots.{withHead, timesFrom}
-use Rattle.record.specs.Place.{cellAt, spanOf, recordWith, recordOf}
+use Rattle.record.specs.Place.{cellAt, recordWith, recordOf}
 use Rattle.record.specs.Buffers.{Wrote, Laid}
 use Rattle.place.specs.Call.{Says, parts, buffers, DidAt}
 use Rattle.record.specs.Walk.{waitingOf, handNumbers}

@@ -6,12 +6,12 @@ use native.Mathlib.Omega.{arith}
 use lib.ListN.{length, set}
 use Rattle.ring.specs.Ring.{next, steps, seen, Side, Ahead, Far, size}
 use Rattle.larq.specs.Channel as channel
-use Rattle.larq.specs.Channel.{waits, reach, Channel, window}
+use Rattle.larq.specs.Channel.{waits, reach, Channel, window, spanOf}
 use Rattle.larq.specs.Settling.{walk, wide}
 use Rattle.larq.specs.Answer.{accepted, holds}
 use Rattle.larq.specs.Events.{frame, act-on, data-on, ahead, restarted, opened, asked, settledAt, taken}
 use Rattle.slots.specs.Slots.{withHead, withLatest}
-use Rattle.record.specs.Place.{cellAt, spanOf, recordWith}
+use Rattle.record.specs.Place.{cellAt, recordWith}
 use Rattle.place.specs.Call.{Parts, Buffers, parts, buffers, Says, DidAt, Called}
 use Rattle.record.specs.Moving.{recordIn, spanIn}
 use Rattle.place.specs.Steps.{Ready, answerOf, filledAt, dataAt}

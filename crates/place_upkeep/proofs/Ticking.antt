@@ -5,11 +5,11 @@ use mathlib.Core.List.{List, []}
 use native.Mathlib.Omega.{arith}
 use native.Mathlib.Nat.{zero-add}
 use lib.ListN.{length}
-use Rattle.larq.specs.Channel.{Cell, window}
+use Rattle.larq.specs.Channel.{Cell, window, spanOf}
 use Rattle.larq.specs.Settling.{Walked, walk, hold, stale}
 use Rattle.larq.specs.Events.{tick, act-on, tick-on, asked, moved}
 use Rattle.slots.specs.Slots.{timesFrom}
-use Rattle.record.specs.Place.{cellsFrom, cellAt, spanOf, recordWith, recordOf}
+use Rattle.record.specs.Place.{cellsFrom, cellAt, recordWith, recordOf}
 use Rattle.record.specs.Moving.{recordIn, spanIn, storedIn}
 use Rattle.record.specs.Walk.{Settles, settleNumbers}
 use Rattle.record.specs.declared.Record.{Record}

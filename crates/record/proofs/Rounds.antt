@@ -6,7 +6,7 @@ use native.Mathlib.Omega.{arith}
 use Rattle.ring.specs.Ring.{size, forward, next, steps}
 use Rattle.ring.proofs.Steps.{forward-small, forward-forward, steps-forward, forward-steps}
 use Rattle.slots.specs.Slots.{slots, slotOf}
-use Rattle.record.specs.Place.{spanOf}
+use Rattle.larq.specs.Channel.{spanOf}
 
 pub forward-none : (m : ℕ) → m < size → forward m 0 ≡ m
 forward-none m h = omega arith
@@ -43,14 +43,11 @@ behind-by m past x p q =
 
 -- The number after C lies the span past M.
 pub span-end : (c m : ℕ) → forward m (spanOf c m) ≡ next c
-span-end c m = forward-steps m (c + 1)
-
-steps-ring : (a b : ℕ) → steps a (b % size) ≡ steps a b
-steps-ring a b = omega arith
+span-end c m = forward-steps m (next c) ∙ (let e : next c % size ≡ next c = omega arith in e)
 
 -- the span from a number past M, up to the number before one past M
 pub span-between : (c m past x : ℕ) → past ≤ x → x < size → forward m x ≡ next c → spanOf c (forward m past) ≡ x - past
-span-between c m past x p q e = sym (steps-ring (forward m past) (c + 1)) ∙ ap (steps (forward m past)) (sym e) ∙ ahead-by m past x p q
+span-between c m past x p q e = ap (steps (forward m past)) (sym e) ∙ ahead-by m past x p q
 
 span-small : (c m : ℕ) → spanOf c m < size
 span-small c m = omega arith

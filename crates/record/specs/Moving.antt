@@ -3,9 +3,9 @@ use Prim.Native.Nat.{ℕ, _+_, _-_}
 use mathlib.Core.Path.{_≡_}
 use mathlib.Core.List.{List}
 use Rattle.ring.specs.Ring.{forward, steps}
-use Rattle.larq.specs.Channel.{Channel, window}
+use Rattle.larq.specs.Channel.{Channel, window, spanOf}
 use Rattle.slots.specs.Slots.{withHead}
-use Rattle.record.specs.Place.{spanOf, recordWith}
+use Rattle.record.specs.Place.{recordWith}
 use Rattle.record.specs.declared.Record.{Record}
 use Rattle.record.specs.declared.Grown.{Grown}
 

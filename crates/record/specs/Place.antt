@@ -1,11 +1,11 @@
 -- What the lent parts of one place mean: its words, handles and marks. Where they keep what is told by crate slots.
-use Prim.Native.Nat.{ℕ, zero, suc, _+_}
+use Prim.Native.Nat.{ℕ, zero, suc}
 use mathlib.Core.Bool.{Bool, cond, _&&_}
 use mathlib.Core.List.{List, [], _∷_}
 use lib.ListN.{length}
 use lib.Dec.{eqb}
-use Rattle.ring.specs.Ring.{next, steps}
-use Rattle.larq.specs.Channel.{Cell, waits, missing, Channel, sound, window}
+use Rattle.ring.specs.Ring.{next}
+use Rattle.larq.specs.Channel.{Cell, waits, missing, Channel, spanOf, sound, window}
 use Rattle.larq.specs.Table.{Lent}
 use Rattle.slots.specs.Slots.{slots, slotOf, placeWords, placeSized, currentIn, oldestIn, latestIn, isMissing, timeAt, handleAt}
 
@@ -17,10 +17,6 @@ cellAt words handles marks i = cond (isMissing marks i) (missing (timeAt words i
 unfoldable pub cellsFrom : (ℕ → Cell ℕ) → ℕ → ℕ → List (Cell ℕ)
 cellsFrom cell m zero = []
 cellsFrom cell m (suc n) = cell (slotOf m) ∷ cellsFrom cell (next m) n
-
--- the span: C + 1 - M modulo 4,096
-abbrev pub spanOf : ℕ → ℕ → ℕ
-spanOf c m = steps m (c + 1)
 
 unfoldable pub recordWith : ℕ → ℕ → ℕ → List ℕ → List ℕ → List ℕ → Channel ℕ
 recordWith c m t words handles marks =

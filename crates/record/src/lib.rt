@@ -4,9 +4,9 @@
 ghost use mathlib.Core.Path.{_≡_};
 ghost use Prim.Native.Nat.{_-_};
 ghost use Rattle.ring.specs.Ring.{forward, next};
-ghost use Rattle.larq.specs.Channel.{window};
+ghost use Rattle.larq.specs.Channel.{window, spanOf};
 ghost use Rattle.larq.specs.Table.{lentEnough};
-ghost use Rattle.record.specs.Place.{spanOf, placeLent};
+ghost use Rattle.record.specs.Place.{placeLent};
 ghost use Rattle.record.specs.Moving.{IsGrown, storedIn};
 
 mod window;

@@ -1,7 +1,7 @@
 -- A table that was handed in: whatever its words are, an accepted call found the first record of its key as good as those that the box makes.
 -- A broken one is refused by number 6, and the cells of every record that words can mean reach from M to C. So what the rules promise of good
 -- records holds of every call on every table, not only after an empty one. Assumes nothing.
-use Prim.Native.Nat.{ℕ, zero, suc, _+_, _≤_, _<_}
+use Prim.Native.Nat.{ℕ, zero, suc, _≤_, _<_}
 use mathlib.Core.Path.{_≡_, refl, ap, sym, subst, _∙_}
 use mathlib.Core.Bool.{Bool, true, false, cond}
 use mathlib.Core.Option.{Option, some, none}
@@ -11,8 +11,7 @@ use lib.ListN.{length, getD}
 use lib.Dec.{eqb}
 use Rattle.ring.specs.Ring.{forward, steps, Side, Ahead, Behind, Far}
 use Rattle.ring.proofs.Sides.{Seen, sees}
-use Rattle.ring.proofs.Steps.{forward-steps}
-use Rattle.larq.specs.Channel.{Cell, Channel, window, reach, span, sound}
+use Rattle.larq.specs.Channel.{Cell, Channel, window, reach, spanOf, span, sound}
 use Rattle.larq.specs.Answer.{holds, Outcome}
 use Rattle.larq.specs.Events.{Act, frame, reminder, tick, close, filling, filled, data-on, reminder-on, sideOf, act-on}
 use Rattle.larq.specs.Table.{Key, free, held, sameKey, Table, channels, room, Event, one, outcome}
@@ -24,7 +23,8 @@ use Rattle.larq.proofs.Moved.{moves, none-given-up}
 use Rattle.larq.proofs.AtOnce.{at-once}
 use Rattle.larq.proofs.Bounds.{bounded}
 use Rattle.slots.specs.Slots.{currentIn, oldestIn}
-use Rattle.record.specs.Place.{cellAt, spanOf, recordWith, recordOf}
+use Rattle.record.specs.Place.{cellAt, recordWith, recordOf}
+use Rattle.record.proofs.Rounds.{span-end}
 use Rattle.record.proofs.Windows.{length-cells-from}
 use Rattle.place.specs.Call.{Buffers}
 use Rattle.place.specs.declared.Answer.{Answer}
@@ -37,14 +37,14 @@ module _ (words handles marks : List ℕ) where
   -- 'for each number from M to C whether it waits .. or is missing': it has as many cells as its span says.
   pub lent-span : length (recordOf words handles marks .cells) ≡ span (recordOf words handles marks)
   unfolding recordWith
-  lent-span = length-cells-from (cellAt words handles marks) (oldestIn words) (spanOf (currentIn words) (oldestIn words)) ∙ omega arith
+  lent-span = length-cells-from (cellAt words handles marks) (oldestIn words) (spanOf (currentIn words) (oldestIn words))
 
   -- and they end at C.
   pub lent-joined : Joined (recordOf words handles marks)
   unfolding recordWith
   lent-joined =
       ap (forward (oldestIn words)) (length-cells-from (cellAt words handles marks) (oldestIn words) (spanOf (currentIn words) (oldestIn words)))
-      ∙ forward-steps (oldestIn words) (currentIn words + 1)
+      ∙ span-end (currentIn words) (oldestIn words)
 
   -- 'A record is broken if ..': one that is not is good.
   pub lent-good : sound window (recordOf words handles marks) ≡ true → Good window (recordOf words handles marks)

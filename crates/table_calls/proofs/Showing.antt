@@ -1,16 +1,16 @@
 -- A look at one place: what is told of its record where it is sound, and number 6 where it is broken. Assumes nothing.
 use Prim.Native.Nat.{ℕ, _+_, _≤_}
-use mathlib.Core.Path.{_≡_, ap₂, refl, sym, _∙_}
+use mathlib.Core.Path.{_≡_, refl, ap, ap₂, sym, _∙_}
 use mathlib.Core.Bool.{Bool, true, false}
 use mathlib.Core.List.{List, _++_, map}
 use native.Mathlib.Omega.{arith}
 use lib.ListN.{length, drop, length-map}
 use lib.Seq.{sets}
 use Rattle.ring.specs.Ring.{forward, steps}
-use Rattle.larq.specs.Channel.{window, sound}
+use Rattle.larq.specs.Channel.{window, sound, spanOf}
 use Rattle.larq.proofs.Sound.{Sound, sound-is}
 use Rattle.slots.specs.Slots.{slots, placeWords, currentIn, oldestIn, latestIn}
-use Rattle.record.specs.Place.{cellsFrom, cellAt, spanOf, recordWith, recordOf, soundAt}
+use Rattle.record.specs.Place.{cellsFrom, cellAt, recordWith, recordOf, soundAt}
 use Rattle.record.specs.Buffers.{Laid}
 use Rattle.record.proofs.Laying.{wrote-front}
 use Rattle.judging.proofs.Sounds.{sound-handles}
@@ -26,7 +26,7 @@ fronted x before after e h =
     wrote-front laid h .buffer
 
 span-by : (n f c m : ℕ) → n ≡ steps m f → f ≡ forward c 1 → n ≡ spanOf c m
-span-by n f c m n-is f-is = omega (arith, n-is, f-is)
+span-by n f c m n-is f-is = n-is ∙ ap (steps m) f-is
 
 -- the parts and the buffers are as long as they should be
 module _ (w h k X Y : List ℕ) (lw : length w ≡ placeWords) (lk : length k ≡ slots) where

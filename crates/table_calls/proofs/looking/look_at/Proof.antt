@@ -5,7 +5,8 @@ use native.Mathlib.Omega.{arith}
 use borrow.Author.Tests.{not-true, not-false}
 use denote.Ref.{now}
 use Rattle.slots.specs.Slots.{currentIn, oldestIn}
-use Rattle.record.specs.Place.{spanOf, soundAt}
+use Rattle.larq.specs.Channel.{spanOf}
+use Rattle.record.specs.Place.{soundAt}
 use Rattle.table_calls.proofs.Showing.{broken-looked, Fits, fits, span-is, looked}
 use borrow.Author.Needs.{needs}
 use Rattle.table_calls.proofs.looking.look_at.Statement.{statement}
