@@ -2,21 +2,29 @@
 -- answer with'. Assumes nothing.
 use Prim.Native.Nat.{ℕ, _≤_, _<_}
 use mathlib.Core.Path.{_≡_, sym, _∙_}
-use mathlib.Core.Bool.{true, false}
-use mathlib.Core.List.{List, []}
+use mathlib.Core.Bool.{true, false, cond}
+use mathlib.Core.List.{List, [], _∷_}
 use native.Mathlib.Omega.{arith}
 use lib.ListN.{length}
 use borrow.Author.Tests.{le-leb, lt-leb}
-use Rattle.wire.specs.Refusals.{Refusal}
-use Rattle.larq.specs.Channel.{window, sound}
-use Rattle.larq.specs.Table.{Lent, lentEnough}
-use Rattle.ring.specs.Ring.{size}
+use Rattle.wire.specs.Refusals.{Refusal, answered}
+use Rattle.larq.specs.Answer.{refused}
+use Rattle.larq.specs.Channel.{Channel, window, sound}
+use Rattle.larq.specs.Events.{Act, act-on}
+use Rattle.larq.specs.Table.{Lent, lentEnough, numberInRing, reminderNear, one}
+use Rattle.ring.specs.Ring.{isNumber, size}
 use Rattle.slots.specs.Slots.{currentIn, oldestIn, latestIn}
 use Rattle.record.specs.Place.{recordWith, recordOf, soundAt, placeLent}
-use Rattle.judging.specs.Judge.{common, RefusedBy, OpenAt}
+use Rattle.judging.specs.Judge.{eventOn, common, RefusedBy, OpenAt}
 use Rattle.record.specs.declared.Record.{Record}
 use Rattle.record.proofs.Sizes.{Enough, enough-of}
 use Rattle.judging.proofs.Sounds.{sound-by-sizes}
+
+-- every event at an open channel has these tests, and after them what it does, or number 8
+pub common-to-all : (lent : Lent) (s time : ℕ) (c : Channel ℕ) (act : Act ℕ) → numberInRing act ≡ isNumber s → one window true (c ∷ []) (eventOn lent time act)
+    ≡ answered refused (common lent s time c) (cond (reminderNear window act c) (act-on window c time act) (refused 8))
+unfolding one
+common-to-all lent s time c act number = rw number
 
 -- what `judge` is asked: the words and marks of a place, how long its handles and the three buffers are, the number and the time
 pub record Asked : Type 0 where

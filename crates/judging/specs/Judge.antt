@@ -6,10 +6,11 @@ use mathlib.Core.List.{List, [], _∷_}
 use mathlib.Core.Logic.{_⊎_}
 use lib.ListN.{length}
 use lib.Dec.{leb}
-use Rattle.wire.specs.Refusals.{Refusal, _else_, first}
-use Rattle.larq.specs.Channel.{window, reach, Cell, Channel, headMissing, times, orderly, sound, spanOf}
+use Rattle.wire.specs.Refusals.{Refusal, first}
+use Rattle.larq.specs.Channel.{window, reach, Cell, Channel, spanOf, headMissing, times, orderly}
+use Rattle.larq.specs.Events.{Act, frame}
 use Rattle.ring.specs.Ring.{isNumber, steps, seen, Ahead, Behind, Far}
-use Rattle.larq.specs.Table.{Lent, lentEnough, notBefore}
+use Rattle.larq.specs.Table.{Lent, Event, refusals}
 use Rattle.slots.specs.Slots.{slotOf, currentIn, oldestIn, latestIn, isMissing}
 use Rattle.record.specs.Place.{cellsFrom, cellAt, recordOf}
 use Rattle.record.specs.Moving.{spanIn}
@@ -34,11 +35,14 @@ shapely latest cells = leb (length cells) window && (headMissing cells && orderl
 abbrev pub inShape : ℕ → ℕ → List ℕ → List ℕ → Bool
 inShape c m words marks = shapely (latestIn words) (cellsFrom (cellAt words [] marks) m (spanOf c m))
 
--- the tests that every event has, in the paper's order, with its number s
+-- an event at a channel whose record is at hand: its key has no part in it
+abbrev pub eventOn : Lent → ℕ → Act ℕ → Event ℕ
+eventOn lent time act = record { key = record { destination = 0; source = 0; priority = 0 }; time = time; act = act; lent = lent }
+
+-- the refusals that every event has which brings number s: those of data, since the rules' list has no more for it. A reminder has number 8 besides, and a
+-- tick and a close are judged as if they had number 0 (`common-to-all` of proofs/Refusing). The handle has no part in them
 abbrev pub common : Lent → ℕ → ℕ → Channel ℕ → List Refusal
-common lent s time c =
-    (lentEnough window lent else 1)
-    ∷ ((isNumber s else 2) ∷ ((sound window c else 6) ∷ ((notBefore time c else 7) ∷ [])))
+common lent s time c = refusals window true (c ∷ []) (eventOn lent time (frame s 0))
 
 -- one of them fails, and the number is given
 pub record RefusedBy (tests : List Refusal) (number : ℕ) : Type 0 where

@@ -12,6 +12,7 @@ use Rattle.larq.specs.Table.{Lent, Event, one}
 use Rattle.slots.specs.Slots.{slots, placeWords, withHead}
 use Rattle.record.specs.Place.{recordOf, placeLent}
 use Rattle.record.specs.Buffers.{Wrote}
+use Rattle.judging.specs.Judge.{eventOn}
 use Rattle.place.specs.declared.Answer.{Answer}
 
 -- the three answer buffers
@@ -65,10 +66,9 @@ abbrev pub lentAt : Parts → Buffers → Lent
 lentAt p b =
     placeLent (length (p .words)) (length (p .handles)) (length (p .marks)) (length (b .up)) (length (b .returned)) (length (b .nack))
 
--- an event at an open place, on its own: the key has no part in it
+-- an event at an open place, on its own
 abbrev pub eventAt : Parts → Buffers → ℕ → Act ℕ → Event ℕ
-eventAt p b time act =
-    record { key = record { destination = 0; source = 0; priority = 0 }; time = time; act = act; lent = lentAt p b }
+eventAt p b time act = eventOn (lentAt p b) time act
 
 -- the rule for that event: the numbers 1, 2, 6, 7, 8 in their order, then what the event does
 abbrev pub ruleAt : Parts → Buffers → ℕ → Act ℕ → Outcome ℕ
