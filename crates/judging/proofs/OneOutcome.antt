@@ -6,29 +6,19 @@ use mathlib.Core.Logic.{⊎-elim}
 use mathlib.Core.List.{List}
 use native.Mathlib.Omega.{arith}
 use Rattle.wire.proofs.Joined.{not-both}
-use Rattle.wire.specs.Refusals.{Refusal}
 use Rattle.ring.specs.Ring.{seen, Ahead, Far}
 use Rattle.larq.specs.Channel.{window, reach}
 use Rattle.larq.specs.Table.{Lent}
 use Rattle.record.specs.declared.Record.{Record}
-use Rattle.judging.specs.Judge.{RefusedBy, OpenAt, Judges, BehindAt, MissingAt, UnwantedAt, NextAt, AheadAt, LiesAt}
+use Rattle.judging.specs.Judge.{judgedSays, judgedFor, BehindAt, MissingAt, UnwantedAt, NextAt, AheadAt, LiesAt}
 use Rattle.judging.specs.declared.Judged.{Judged}
-use Rattle.judging.specs.declared.Judged.the-variants.{Refused, Open}
 use Rattle.judging.specs.declared.Spot.{Spot}
 use Rattle.judging.specs.declared.Spot.the-variants as spot
+use Rattle.judging.proofs.Saying.{one-judged}
 
-refused-or-open : (tests : List Refusal) (n : ℕ) (words : List ℕ) (r : Record) → RefusedBy tests n → OpenAt tests words r → ⊥
-refused-or-open tests n words r u v = let z : n ≡ 0 = sym (u .is) ∙ v .none in omega (arith, u .some)
-
-one-record : (tests : List Refusal) (words : List ℕ) (r q : Record) → OpenAt tests words r → OpenAt tests words q → r ≡ q
-one-record tests words r q u v = rw (u .current, v .current, u .oldest, v .oldest, u .latest, v .latest) refl
-
-pub one-judge : (lent : Lent) (words marks : List ℕ) (s time : ℕ) (a b : Judged) → Judges lent words marks s time a → Judges lent words marks s time b
-    → a ≡ b
-one-judge lent words marks s time (Refused n) (Refused m) u v = ap Refused (sym (u .is) ∙ v .is)
-one-judge lent words marks s time (Refused n) (Open r) u v = absurd (refused-or-open _ n words r u v)
-one-judge lent words marks s time (Open r) (Refused n) u v = absurd (refused-or-open _ n words r v u)
-one-judge lent words marks s time (Open r) (Open q) u v = ap Open (one-record _ words r q u v)
+pub one-judge : (lent : Lent) (words marks : List ℕ) (s time : ℕ) (a b : Judged) → judgedSays a ≡ judgedFor lent words marks s time
+    → judgedSays b ≡ judgedFor lent words marks s time → a ≡ b
+one-judge lent words marks s time a b u v = one-judged a b (u ∙ sym v)
 
 ahead-behind : (c s d : ℕ) → seen (reach window) c s ≡ Ahead d → BehindAt c s → ⊥
 ahead-behind c s d e b = let f = sym e ∙ b .is in let z : _≡_ {A = ℕ} 0 1 = cc in omega arith

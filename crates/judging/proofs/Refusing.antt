@@ -7,7 +7,9 @@ use mathlib.Core.List.{List, [], _∷_}
 use native.Mathlib.Omega.{arith}
 use lib.ListN.{length}
 use borrow.Author.Tests.{le-leb, lt-leb}
-use Rattle.wire.specs.Refusals.{Refusal, answered}
+use Rattle.wire.specs.Answers as said
+use Rattle.wire.specs.Answers.{Said}
+use Rattle.wire.specs.Refusals.{answered}
 use Rattle.larq.specs.Answer.{refused}
 use Rattle.larq.specs.Channel.{Channel, window, sound}
 use Rattle.larq.specs.Events.{Act, act-on}
@@ -15,7 +17,8 @@ use Rattle.larq.specs.Table.{Lent, lentEnough, numberInRing, reminderNear, one}
 use Rattle.ring.specs.Ring.{isNumber, size}
 use Rattle.slots.specs.Slots.{currentIn, oldestIn, latestIn}
 use Rattle.record.specs.Place.{recordWith, recordOf, soundAt, placeLent}
-use Rattle.judging.specs.Judge.{eventOn, common, RefusedBy, OpenAt}
+use Rattle.judging.specs.Judge.{eventOn, common, judgedSays, judgedFor}
+use Rattle.judging.specs.declared.Judged.the-variants.{Open}
 use Rattle.record.specs.declared.Record.{Record}
 use Rattle.record.proofs.Sizes.{Enough, enough-of}
 use Rattle.judging.proofs.Sounds.{sound-by-sizes}
@@ -53,39 +56,32 @@ module _ (a : Asked) where
   abbrev lent : Lent
   lent = askedLent a
 
-  abbrev tests : List Refusal
-  tests = common lent s (a .time) (recordOf words [] marks)
+  abbrev says : Said
+  says = judgedFor lent words marks s (a .time)
 
-  pub refused-1 : lentEnough window lent ≡ false → RefusedBy tests 1
-  refused-1 e = record { is = rw e; some = omega arith }
+  pub refused-1 : lentEnough window lent ≡ false → said.refused 1 ≡ says
+  refused-1 e = rw e
 
   module _ (enough : lentEnough window lent ≡ true) where
     given : Enough (length words) (a .handles) (length marks) (a .up) (a .returned) (a .nack)
     given = enough-of (length words) (a .handles) (length marks) (a .up) (a .returned) (a .nack) enough
 
-    pub refused-2 : size ≤ s → RefusedBy tests 2
-    refused-2 l = record { is = rw (enough, lt-leb s 4095 l); some = omega arith }
+    pub refused-2 : size ≤ s → said.refused 2 ≡ says
+    refused-2 l = rw (enough, lt-leb s 4095 l)
 
     module _ (in-ring : s < size) where
       sound-is : soundAt words marks ≡ sound window (recordOf words [] marks)
       sound-is = sound-by-sizes words marks (given .words-sized) (given .marks-sized)
 
-      pub refused-6 : soundAt words marks ≡ false → RefusedBy tests 6
-      refused-6 e = record { is = rw (enough, le-leb s 4095 (omega arith), sym sound-is ∙ e); some = omega arith }
+      pub refused-6 : soundAt words marks ≡ false → said.refused 6 ≡ says
+      refused-6 e = rw (enough, le-leb s 4095 (omega arith), sym sound-is ∙ e)
 
       module _ (whole : soundAt words marks ≡ true) where
-        pub refused-7 : a .time < latestIn words → RefusedBy tests 7
+        pub refused-7 : a .time < latestIn words → said.refused 7 ≡ says
         unfolding recordWith
-        refused-7 l =
-            record { is = rw (enough, le-leb s 4095 (omega arith), sym sound-is ∙ whole, lt-leb (latestIn words) (a .time) l); some = omega arith }
+        refused-7 l = rw (enough, le-leb s 4095 (omega arith), sym sound-is ∙ whole, lt-leb (latestIn words) (a .time) l)
 
         pub opens : latestIn words ≤ a .time → (r : Record) → r .current .0 ≡ currentIn words → r .oldest .0 ≡ oldestIn words
-            → r .latest ≡ latestIn words → OpenAt tests words r
+            → r .latest ≡ latestIn words → judgedSays (Open r) ≡ says
         unfolding recordWith
-        opens l r ec eo el =
-            record {
-              none = rw (enough, le-leb s 4095 (omega arith), sym sound-is ∙ whole, le-leb (latestIn words) (a .time) l);
-              current = ec;
-              oldest = eo;
-              latest = el;
-            }
+        opens l r ec eo el = rw (enough, le-leb s 4095 (omega arith), sym sound-is ∙ whole, le-leb (latestIn words) (a .time) l, ec, eo, el)

@@ -6,7 +6,8 @@ use mathlib.Core.List.{List, [], _∷_}
 use mathlib.Core.Logic.{_⊎_}
 use lib.ListN.{length}
 use lib.Dec.{leb}
-use Rattle.wire.specs.Refusals.{Refusal, first}
+use Rattle.wire.specs.Answers.{Said, accepted, refused}
+use Rattle.wire.specs.Refusals.{Refusal, answered}
 use Rattle.larq.specs.Channel.{window, reach, Cell, Channel, spanOf, headMissing, times, orderly}
 use Rattle.larq.specs.Events.{Act, frame}
 use Rattle.ring.specs.Ring.{isNumber, steps, seen, Ahead, Behind, Far}
@@ -44,21 +45,15 @@ eventOn lent time act = record { key = record { destination = 0; source = 0; pri
 abbrev pub common : Lent → ℕ → ℕ → Channel ℕ → List Refusal
 common lent s time c = refusals window true (c ∷ []) (eventOn lent time (frame s 0))
 
--- one of them fails, and the number is given
-pub record RefusedBy (tests : List Refusal) (number : ℕ) : Type 0 where
-  pub is : first tests ≡ number
-  pub some : 0 < number
+-- what each case says: document 01's number, 0 where the event goes on, and then C, M and the latest time
+abbrev pub judgedSays : Judged → Said
+judgedSays (Refused n) = refused n
+judgedSays (Open r) = accepted (r .current .0 ∷ (r .oldest .0 ∷ (r .latest ∷ [])))
 
--- all of them pass, and the record is at hand
-pub record OpenAt (tests : List Refusal) (words : List ℕ) (r : Record) : Type 0 where
-  pub none : first tests ≡ 0
-  pub current : r .current .0 ≡ currentIn words
-  pub oldest : r .oldest .0 ≡ oldestIn words
-  pub latest : r .latest ≡ latestIn words
-
-abbrev pub Judges : Lent → List ℕ → List ℕ → ℕ → ℕ → Judged → Type 0
-Judges lent words marks s time (Refused number) = RefusedBy (common lent s time (recordOf words [] marks)) number
-Judges lent words marks s time (Open r) = OpenAt (common lent s time (recordOf words [] marks)) words r
+-- what is to be said of an event with number s at a place: the first number that refuses it, or the record that the place holds
+abbrev pub judgedFor : Lent → List ℕ → List ℕ → ℕ → ℕ → Said
+judgedFor lent words marks s time =
+    answered refused (common lent s time (recordOf words [] marks)) (accepted (currentIn words ∷ (oldestIn words ∷ (latestIn words ∷ []))))
 
 -- a number at C or behind it, in the window or before M
 pub record BehindAt (c s : ℕ) : Type 0 where

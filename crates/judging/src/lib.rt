@@ -7,7 +7,7 @@ ghost use Rattle.larq.specs.Channel.{orderly};
 ghost use Rattle.ring.specs.Ring.{size};
 ghost use Rattle.slots.specs.Slots.{currentIn, oldestIn, latestIn};
 ghost use Rattle.record.specs.Place.{soundAt, placeLent};
-ghost use Rattle.judging.specs.Judge.{inRing, timesOf, inShape, Judges, LiesAt};
+ghost use Rattle.judging.specs.Judge.{inRing, timesOf, inShape, judgedSays, judgedFor, LiesAt};
 use larq::WINDOW;
 use record::Record;
 use record::lent_enough;
@@ -109,7 +109,9 @@ pub fn judge(
     number: u16,
     time: u64,
 ) -> Judged
-    ensures { λ r. ⌜ Judges (placeLent (length (now (words .entry))) handles (length (now (marks .entry))) up returned nack) (now (words .entry)) (now (marks .entry)) number time r ⌝ }
+    ensures { λ r. ⌜ judgedSays r
+        ≡ judgedFor (placeLent (length (now (words .entry))) handles (length (now (marks .entry))) up returned nack)
+        (now (words .entry)) (now (marks .entry)) number time ⌝ }
 {
     if !lent_enough(words.len(), handles, marks.len(), up, returned, nack) {
         return Judged::Refused(1);

@@ -1,33 +1,27 @@
 -- A call on an open place, from what was decided and what was done: the rule for the event is the refusal by the number that was decided, or
 -- what the event does. Assumes nothing.
-use Prim.Native.Nat.{ℕ, _<_}
-use mathlib.Core.Path.{_≡_, refl, ap, _∙_, subst⁻¹}
-use mathlib.Core.Bool.{Bool, true, false, cond}
-use mathlib.Core.List.{List, [], _∷_}
-use native.Mathlib.Omega.{arith}
+use Prim.Native.Nat.{ℕ}
+use mathlib.Core.Path.{_≡_, refl, _∙_, subst⁻¹}
+use mathlib.Core.Bool.{cond}
+use mathlib.Core.List.{List, []}
 use lib.Dec.{leb}
-use Rattle.wire.specs.Refusals.{first, _else_}
+use Rattle.wire.specs.Refusals.{Refusal, answered}
 use Rattle.larq.specs.Channel as channel
-use Rattle.larq.specs.Channel.{Channel, sound, window}
+use Rattle.larq.specs.Channel.{Channel}
 use Rattle.larq.specs.Answer.{Change, Outcome, refused}
 use Rattle.larq.specs.Events.{Act, act-on}
-use Rattle.larq.specs.Table.{one, lentEnough, numberInRing, notBefore, reminderNear}
+use Rattle.larq.specs.Table.{numberInRing, reminderNear}
+use Rattle.slots.specs.Slots.{currentIn}
 use Rattle.record.specs.Place.{recordWith, recordOf}
 use Rattle.place.specs.Call.{lentAt, Buffers, Parts, buffers, Answered, Became, Says, DidAt, Called, ruleAt}
 use Rattle.place.specs.declared.Answer.{Answer}
 use Rattle.record.specs.declared.Record.{Record}
+use Rattle.judging.specs.Judge.{common}
+use Rattle.judging.proofs.Refusing.{common-to-all}
+use Rattle.judging.proofs.Saying.{said-refused}
 use Rattle.judging.proofs.Sounds.{sound-handles}
 use Rattle.record.proofs.Laying.{wrote-idle}
-use Rattle.place.proofs.Opening.{Stopped, Opened, passes}
-
--- the number of the first test that fails, and what is answered where all pass
-by-tests : {A : Type 0} (refuse : ℕ → A) (good : A) (a b c d : Bool) (n : ℕ) → first ((a else 1) ∷ ((b else 2) ∷ ((c else 6) ∷ ((d else 7) ∷ [])))) ≡ n → 0 < n
-    → cond a (cond b (cond c (cond d good (refuse 7)) (refuse 6)) (refuse 2)) (refuse 1) ≡ refuse n
-by-tests refuse good false b c d n e p = ap refuse e
-by-tests refuse good true false c d n e p = ap refuse e
-by-tests refuse good true true false d n e p = ap refuse e
-by-tests refuse good true true true false n e p = ap refuse e
-by-tests refuse good true true true true n e p = absurd (let z : ⊥ = omega arith in z)
+use Rattle.place.proofs.Opening.{Stopped, Opened}
 
 -- All counts are 0, and no buffer is touched.
 pub answered-none : {n : ℕ} {change : Change ℕ} {b : Buffers} {a : Answer} → Says n 0 0 0 0 a
@@ -82,25 +76,19 @@ module _ (p : Parts) (b : Buffers) (s time : ℕ) (act : Act ℕ) (number : numb
   abbrev done : Outcome ℕ
   done = cond (reminderNear channel.window act c) (act-on channel.window c time act) (refused 8)
 
-  -- the four tests that every event has
-  abbrev lent : Bool
-  lent = lentEnough channel.window (lentAt p b)
+  -- the tests that every event has; the handles have no part in them
+  abbrev tests : List Refusal
+  tests = common (lentAt p b) s time (recordOf (p .words) [] (p .marks))
 
-  abbrev whole : Bool
-  whole = sound channel.window (recordOf (p .words) [] (p .marks))
-
-  abbrev late : Bool
-  late = notBefore time (recordOf (p .words) [] (p .marks))
-
-  rule-is : ruleAt p b time act ≡ cond lent (cond (leb s 4095) (cond whole (cond late done (refused 7)) (refused 6)) (refused 2)) (refused 1)
-  unfolding one recordWith
-  rule-is = rw (number, sound-handles (p .words) (p .handles) (p .marks))
+  rule-is : ruleAt p b time act ≡ answered refused tests done
+  unfolding recordWith
+  rule-is = common-to-all (lentAt p b) s time c act number ∙ rw (sound-handles (p .words) (p .handles) (p .marks))
 
   rule-stopped : {n : ℕ} → Stopped p b s time n → ruleAt p b time act ≡ refused n
-  rule-stopped {n} stopped = rule-is ∙ by-tests refused done lent (leb s 4095) whole late n (stopped .by .is) (stopped .by .some)
+  rule-stopped {n} stopped = rule-is ∙ said-refused refused done tests (currentIn (p .words)) _ n (stopped .by)
 
   rule-opened : {r : Record} → Opened p b s time r → ruleAt p b time act ≡ done
-  rule-opened opened = let e = passes opened in rule-is ∙ rw (e .0, e .1, e .2, e .3)
+  rule-opened opened = let at = opened .at in rule-is ∙ rw (at .lent, at .number, at .whole, at .late)
 
 called : {p after : Parts} {b has : Buffers} {time : ℕ} {act : Act ℕ} {o : Outcome ℕ} {a : Answer} → ruleAt p b time act ≡ o → DidAt o p after b has a
     → Called act time p after b has a

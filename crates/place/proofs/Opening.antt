@@ -8,34 +8,25 @@ use native.Mathlib.Omega.{arith}
 use lib.Dec.{leb}
 use lib.ListN.{length}
 use borrow.Author.Tests.{leb-true}
-use Rattle.wire.specs.Refusals.{first, _else_}
+use Rattle.wire.specs.Answers.{Said, refused}
 use Rattle.ring.specs.Ring.{next, steps, seen, Ahead, size}
 use Rattle.ring.proofs.Sides.{Seen, sees}
 use Rattle.larq.specs.Channel as channel
-use Rattle.larq.specs.Channel.{headMissing, sound, reach, waits, window, spanOf}
-use Rattle.larq.specs.Table.{lentEnough, notBefore}
+use Rattle.larq.specs.Channel.{spanOf, headMissing, reach, waits, window}
 use Rattle.slots.specs.Slots.{slotOf, currentIn, oldestIn, isMissing, handleAt}
 use Rattle.record.specs.Place.{cellsFrom, cellAt, recordOf}
 use Rattle.place.specs.Call.{lentAt, Parts, Buffers}
 use Rattle.record.specs.Moving.{recordIn, spanIn}
-use Rattle.place.specs.Steps.{Ready, testsAt, IsAhead, Waits, Missing}
-use Rattle.judging.specs.Judge.{Judges, RefusedBy, OpenAt, inRing, inShape}
+use Rattle.place.specs.Steps.{Ready, IsAhead, Waits, Missing}
+use Rattle.judging.specs.Judge.{judgedSays, judgedFor, inRing, inShape}
 use Rattle.record.specs.declared.Record.{Record}
 use Rattle.judging.specs.declared.Judged.{Judged}
 use Rattle.judging.specs.declared.Judged.the-variants.{Refused, Open}
 use Rattle.record.proofs.Windows.{length-cells-from, cells-from-suc, cell-waits}
 use Rattle.wire.proofs.Joined.{and-left, and-right}
+use Rattle.judging.proofs.Saying.{OpenAt, open-at}
 use Rattle.judging.proofs.Sounds.{ring-of, sound-is}
 use Rattle.record.proofs.Sizes.{Enough, enough-of}
-
--- no number of the four is given: all four tests pass
-all-pass : (a b c d : Bool) → first ((a else 1) ∷ ((b else 2) ∷ ((c else 6) ∷ ((d else 7) ∷ [])))) ≡ 0
-    → (a ≡ true) × (b ≡ true) × (c ≡ true) × (d ≡ true)
-all-pass true true true true e = (refl, refl, refl, refl)
-all-pass false b c d e = absurd (let z : ⊥ = omega arith in z)
-all-pass true false c d e = absurd (let z : ⊥ = omega arith in z)
-all-pass true true false d e = absurd (let z : ⊥ = omega arith in z)
-all-pass true true true false e = absurd (let z : ⊥ = omega arith in z)
 
 -- a window whose first number does not wait
 head-of : (w k : List ℕ) (m n : ℕ) → headMissing (cellsFrom (cellAt w [] k) m n) ≡ true → 0 < n → isMissing k (slotOf m) ≡ true
@@ -49,18 +40,21 @@ head-of w k m n e p = by-mark (isMissing k (slotOf m)) refl
         absurd (false≢true (sym (ap headMissing first) ∙ e))
 
 -- What was decided of a call with these parts and buffers, this number and this time.
+abbrev decided : Parts → Buffers → ℕ → ℕ → Said
+decided p b s time = judgedFor (lentAt p b) (p .words) (p .marks) s time
+
 pub record Stopped (p : Parts) (b : Buffers) (s time number : ℕ) : Type 0 where
-  pub by : RefusedBy (testsAt p b s time) number
+  pub by : refused number ≡ decided p b s time
 
 pub record Opened (p : Parts) (b : Buffers) (s time : ℕ) (r : Record) : Type 0 where
-  pub at : OpenAt (testsAt p b s time) (p .words) r
+  pub at : OpenAt (lentAt p b) (p .words) (p .marks) s time r
 
-module _ (p : Parts) (b : Buffers) (s time : ℕ) {j : Judged} (judges : Judges (lentAt p b) (p .words) (p .marks) s time j) where
+module _ (p : Parts) (b : Buffers) (s time : ℕ) {j : Judged} (says : judgedSays j ≡ decided p b s time) where
   pub stopped-by : {number : ℕ} → j ≡ Refused number → Stopped p b s time number
-  stopped-by e = record { by = subst (Judges (lentAt p b) (p .words) (p .marks) s time) e judges }
+  stopped-by e = record { by = sym (ap judgedSays e) ∙ says }
 
   pub opened-by : {r : Record} → j ≡ Open r → Opened p b s time r
-  opened-by e = record { at = subst (Judges (lentAt p b) (p .words) (p .marks) s time) e judges }
+  opened-by {r} e = record { at = open-at (lentAt p b) (p .words) (p .marks) s time r (sym (ap judgedSays e) ∙ says) }
 
 module _ {p : Parts} {b : Buffers} {s time : ℕ} {r : Record} (opened : Opened p b s time r) where
   abbrev W : List ℕ
@@ -69,18 +63,14 @@ module _ {p : Parts} {b : Buffers} {s time : ℕ} {r : Record} (opened : Opened 
   abbrev K : List ℕ
   K = p .marks
 
-  pub passes : (lentEnough channel.window (lentAt p b) ≡ true) × (leb s 4095 ≡ true) × (sound channel.window (recordOf W [] K) ≡ true)
-      × (notBefore time (recordOf W [] K) ≡ true)
-  passes = all-pass _ _ _ _ (opened .at .none)
-
   pub enough : Enough (length W) (length (p .handles)) (length K) (length (b .up)) (length (b .returned)) (length (b .nack))
-  enough = enough-of (length W) (length (p .handles)) (length K) (length (b .up)) (length (b .returned)) (length (b .nack)) (passes .0)
+  enough = enough-of (length W) (length (p .handles)) (length K) (length (b .up)) (length (b .returned)) (length (b .nack)) (opened .at .lent)
 
   pub in-ring : s < size
-  in-ring = omega (arith, leb-true s 4095 (passes .1))
+  in-ring = omega (arith, leb-true s 4095 (opened .at .number))
 
   in-shape : (inRing W ≡ true) × (inShape (currentIn W) (oldestIn W) W K ≡ true)
-  in-shape = let e = sym (sound-is W K) ∙ passes .2 in (and-left (inRing W) _ e, and-right (inRing W) _ e)
+  in-shape = let e = sym (sound-is W K) ∙ opened .at .whole in (and-left (inRing W) _ e, and-right (inRing W) _ e)
 
   held : recordIn r W (p .handles) K ≡ recordOf W (p .handles) K
   held = rw (opened .at .current, opened .at .oldest, opened .at .latest)

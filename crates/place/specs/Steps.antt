@@ -4,7 +4,6 @@ use mathlib.Core.Path.{_≡_}
 use mathlib.Core.Bool.{cond, true}
 use mathlib.Core.List.{List, [], _∷_}
 use lib.ListN.{length}
-use Rattle.wire.specs.Refusals.{Refusal}
 use Rattle.ring.specs.Ring.{steps, size}
 use Rattle.larq.specs.Channel.{Cell, waits, Channel, window, reach}
 use Rattle.larq.specs.Settling.{Walked}
@@ -16,10 +15,9 @@ use Rattle.slots.specs.Slots.{slots, slotOf, placeWords, isMissing, withHandle,
 use Rattle.record.specs.Place.{recordOf}
 use Rattle.record.specs.Buffers.{Laid}
 use Rattle.record.specs.Moving.{recordIn, spanIn}
-use Rattle.judging.specs.Judge.{common}
 use Rattle.record.specs.declared.Record.{Record}
 use Rattle.record.specs.Walk.{passes, walkFrom}
-use Rattle.place.specs.Call.{Parts, Buffers, lentAt}
+use Rattle.place.specs.Call.{Parts}
 use Rattle.place.specs.declared.Answer.{Answer}
 use Rattle.stepping.specs.declared.Counts.{Counts}
 
@@ -37,10 +35,6 @@ pub record Ready (r : Record) (w h k : List ℕ) : Type 0 where
   pub oldest : r .oldest .0 < size
   pub narrow : spanIn r ≤ window
   pub head : 0 < spanIn r → isMissing k (slotOf (r .oldest .0)) ≡ true
-
--- the tests that every event has, of its parts and buffers
-abbrev pub testsAt : Parts → Buffers → ℕ → ℕ → List Refusal
-testsAt p b s time = common (lentAt p b) s time (recordOf (p .words) [] (p .marks))
 
 -- M's walk over the window of a record
 abbrev pub walkOf : Record → ℕ → List ℕ → List ℕ → List ℕ → Walked ℕ
