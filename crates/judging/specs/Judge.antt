@@ -1,16 +1,15 @@
 -- What is decided of an event before anything is written. Document 01, 'Numbers the box may answer with'.
-use Prim.Native.Nat.{ℕ, _≤_, _<_}
+use Prim.Native.Nat.{ℕ, _<_}
 use mathlib.Core.Path.{_≡_}
-use mathlib.Core.Bool.{Bool, _&&_, true, false}
+use mathlib.Core.Bool.{Bool, cond, _&&_, true}
 use mathlib.Core.List.{List, [], _∷_}
-use mathlib.Core.Logic.{_⊎_}
 use lib.ListN.{length}
-use lib.Dec.{leb}
+use lib.Dec.{leb, ltb, eqb}
 use Rattle.wire.specs.Answers.{Said, accepted, refused}
 use Rattle.wire.specs.Refusals.{Refusal, answered}
 use Rattle.larq.specs.Channel.{window, reach, Cell, Channel, spanOf, headMissing, times, orderly}
 use Rattle.larq.specs.Events.{Act, frame}
-use Rattle.ring.specs.Ring.{isNumber, steps, seen, Ahead, Behind, Far}
+use Rattle.ring.specs.Ring.{isNumber, steps, seen, Side, Ahead, Behind, Far}
 use Rattle.larq.specs.Table.{Lent, Event, refusals}
 use Rattle.slots.specs.Slots.{slotOf, currentIn, oldestIn, latestIn, isMissing}
 use Rattle.record.specs.Place.{cellsFrom, cellAt, recordOf}
@@ -55,34 +54,23 @@ abbrev pub judgedFor : Lent → List ℕ → List ℕ → ℕ → ℕ → Said
 judgedFor lent words marks s time =
     answered refused (common lent s time (recordOf words [] marks)) (accepted (currentIn words ∷ (oldestIn words ∷ (latestIn words ∷ []))))
 
+-- Where the number of a frame lies, by its side as seen from C: ahead it is the next expected one, if it is M and nothing is missing, or another; behind
+-- it is missing, if it is in the window and marked so, or unwanted, since it waits already or lies before M. Document 01, 'Data'.
+abbrev pub spotBy : Record → List ℕ → ℕ → Side → Spot
+spotBy r marks s (Ahead d) = cond (eqb s (r .oldest .0) && eqb (spanIn r) 0) spot.Next (spot.Ahead d)
+spotBy r marks s (Behind d) = cond (ltb (steps (r .oldest .0) s) (spanIn r) && isMissing marks (slotOf s)) spot.Missing spot.Unwanted
+spotBy r marks s Far = spot.Far
+
+abbrev pub spotFor : Record → List ℕ → ℕ → Spot
+spotFor r marks s = spotBy r marks s (seen (reach window) (r .current .0) s)
+
 -- a number at C or behind it, in the window or before M
 pub record BehindAt (c s : ℕ) : Type 0 where
   pub by : ℕ
   pub is : seen (reach window) c s ≡ Behind by
 
+-- what is so of a missing number, as what lets it wait asks for it
 pub record MissingAt (r : Record) (marks : List ℕ) (s : ℕ) : Type 0 where
   pub behind : BehindAt (r .current .0) s
   pub within : steps (r .oldest .0) s < spanIn r
   pub marked : isMissing marks (slotOf s) ≡ true
-
-pub record UnwantedAt (r : Record) (marks : List ℕ) (s : ℕ) : Type 0 where
-  pub behind : BehindAt (r .current .0) s
-  pub unwanted : (spanIn r ≤ steps (r .oldest .0) s) ⊎ ((steps (r .oldest .0) s < spanIn r) × isMissing marks (slotOf s) ≡ false)
-
--- M, while nothing is missing
-pub record NextAt (r : Record) (s : ℕ) : Type 0 where
-  pub is : seen (reach window) (r .current .0) s ≡ Ahead 1
-  pub oldest : s ≡ r .oldest .0
-  pub none : spanIn r ≡ 0
-
--- any other number that lies ahead of C
-pub record AheadAt (r : Record) (s d : ℕ) : Type 0 where
-  pub is : seen (reach window) (r .current .0) s ≡ Ahead d
-  pub other : s ≡ r .oldest .0 → spanIn r ≡ 0 → ⊥
-
-abbrev pub LiesAt : Record → List ℕ → ℕ → Spot → Type 0
-LiesAt r marks s spot.Next = NextAt r s
-LiesAt r marks s (spot.Ahead d) = AheadAt r s d
-LiesAt r marks s spot.Missing = MissingAt r marks s
-LiesAt r marks s spot.Unwanted = UnwantedAt r marks s
-LiesAt r marks s spot.Far = seen (reach window) (r .current .0) s ≡ Far

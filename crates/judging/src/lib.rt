@@ -7,7 +7,7 @@ ghost use Rattle.larq.specs.Channel.{orderly};
 ghost use Rattle.ring.specs.Ring.{size};
 ghost use Rattle.slots.specs.Slots.{currentIn, oldestIn, latestIn};
 ghost use Rattle.record.specs.Place.{soundAt, placeLent};
-ghost use Rattle.judging.specs.Judge.{inRing, timesOf, inShape, judgedSays, judgedFor, LiesAt};
+ghost use Rattle.judging.specs.Judge.{inRing, timesOf, inShape, judgedSays, judgedFor, spotFor};
 use larq::WINDOW;
 use record::Record;
 use record::lent_enough;
@@ -139,7 +139,7 @@ pub enum Spot {
 }
 
 pub fn spot_of(r: Record, marks: &[u8], s: Seq) -> Spot
-    ensures { λ p. ⌜ LiesAt r (now (marks .entry)) (s .0) p ⌝ }
+    ensures { λ p. ⌜ p ≡ spotFor r (now (marks .entry)) (s .0) ⌝ }
 {
     let c = r.current;
     let m = r.oldest;

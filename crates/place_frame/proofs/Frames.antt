@@ -15,7 +15,8 @@ use Rattle.record.specs.Place.{cellAt, recordWith}
 use Rattle.place.specs.Call.{Parts, Buffers, parts, buffers, Says, DidAt, Called}
 use Rattle.record.specs.Moving.{recordIn, spanIn}
 use Rattle.place.specs.Steps.{Ready, answerOf, filledAt, dataAt}
-use Rattle.judging.specs.Judge.{NextAt, MissingAt, UnwantedAt}
+use Rattle.judging.specs.Judge.{MissingAt}
+use Rattle.judging.proofs.Spots.{NextAt, UnwantedAt}
 use Rattle.place.specs.declared.Answer.{Answer}
 use Rattle.stepping.specs.declared.Counts.{Counts}
 use Rattle.record.specs.declared.Record.{Record}

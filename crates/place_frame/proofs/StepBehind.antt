@@ -20,7 +20,8 @@ use Rattle.record.specs.Walk.{earlier}
 use Rattle.record.specs.Moving.{recordIn, spanIn}
 use Rattle.stepping.specs.Step.{nothing}
 use Rattle.place.specs.Steps.{Ready, Roomy, walkOf, Finished, answerOf, filledAt}
-use Rattle.judging.specs.Judge.{MissingAt, UnwantedAt}
+use Rattle.judging.specs.Judge.{MissingAt}
+use Rattle.judging.proofs.Spots.{UnwantedAt}
 use Rattle.stepping.specs.declared.Counts.{Counts}
 use Rattle.record.specs.declared.Record.{Record}
 use Rattle.record.proofs.Rounds.{slot-steps}

@@ -7,10 +7,12 @@ use lib.Dec.{eqb}
 use borrow.Author.Tests.{eqb-true, eq-eqb}
 use Rattle.ring.specs.Ring.{steps}
 use Rattle.ring.proofs.Sides.{seen-far, seen-ahead, seen-behind}
-use Rattle.judging.specs.Judge.{BehindAt}
+use Rattle.judging.specs.Judge.{spotFor, BehindAt}
+use Rattle.judging.specs.declared.Spot.{Spot}
+use Rattle.judging.specs.declared.Spot.the-variants.{Next, Ahead, Missing, Unwanted, Far}
 use Rattle.record.specs.Moving.{spanIn}
 use Rattle.wire.proofs.Joined.{and-left, and-right, and-both, not-both}
-use Rattle.judging.proofs.Spots.{next-at}
+use Rattle.judging.proofs.Spots.{LiesAt, next-at, spot-at}
 use borrow.Author.Needs.{needs}
 use Rattle.judging.proofs.spot_of.Statement.{statement}
 use Rattle.judging.proofs.spot_of.Tie as tie
@@ -26,12 +28,21 @@ use Rattle.slots.proofs.is_missing.Reads as is-missing-reads
 span-requires : tie.Need-span-requires
 span-requires c κs = search needs
 
+-- the spot by what is so of the number
+spot-is : (c : tie.Start) (p : Spot) → let a = c .args in LiesAt (a .r) (a .marks .now) (a .s .0) p → p ≡ spotFor (a .r) (a .marks .now) (a .s .0)
+spot-is c p at = spot-at (c .args .r) (c .args .marks .now) (c .args .s .0) p at
+
 returns : tie.Need-returns
 returns c =
-    let a = c .before .before .before .before .before .before .before .args in
+    let e = c .before .before .before .before .before .before .before in
+    let a = e .args in
     let is-oldest = eqb (a .s .0) (a .r .oldest .0) in
     let none : spanIn (a .r) ≡ 0 = sym (c .before .before .before .span .ensures) ∙ eqb-true _ 0 (and-right is-oldest _ (c .if1 .taken)) in
-    next-at (a .r) (a .s .0) (eqb-true _ _ (and-left is-oldest _ (c .if1 .taken))) none
+    spot-is e Next (next-at (a .r) (a .s .0) (eqb-true _ _ (and-left is-oldest _ (c .if1 .taken))) none)
+
+-- from past the first test to the function's start
+abbrev start : tie.Else1 → tie.Start
+start c = c .before .before .before .before .before .before .before
 
 distance-requires : tie.Need-distance-requires
 distance-requires c κs = search needs
@@ -40,7 +51,9 @@ is-far-requires : tie.Need-is-far-requires
 is-far-requires c κs = search needs
 
 returns-2 : tie.Need-returns-2
-returns-2 c = seen-far _ _ (rw (c .before .is-far .ensures, c .before .before .distance .ensures) at (c .if2 .taken))
+returns-2 c =
+    spot-is (start (c .before .before .before)) Far
+    (seen-far _ _ (rw (c .before .is-far .ensures, c .before .before .distance .ensures) at (c .if2 .taken)))
 
 is-ahead-requires : tie.Need-is-ahead-requires
 is-ahead-requires c κs = search needs
@@ -48,21 +61,18 @@ is-ahead-requires c κs = search needs
 steps-requires : tie.Need-steps-requires
 steps-requires c κs = search needs
 
--- from past the first test to the function's start
-abbrev start : tie.Else1 → tie.Start
-start c = c .before .before .before .before .before .before .before
-
 returns-3 : tie.Need-returns-3
 returns-3 c =
     let near = c .before .before .before .before .before .before in
     let a = start near .args in
-    record {
+    spot-is (start near) (Ahead _)
+    (record {
       is = rw (c .steps .ensures) (seen-ahead _ _ (rw (c .before .before .is-ahead .ensures, c .before .before .before .before .before .distance .ensures) at (c .before .if3 .taken)));
       other =
           λ same none. not-both _
           (and-both _ _ (eq-eqb (a .s .0) (a .r .oldest .0) same) (eq-eqb _ 0 (near .before .before .before .span .ensures ∙ none)))
           (near .if1 .left);
-    }
+    })
 
 -- past the tests of the distance
 abbrev past : tie.Else3 → tie.Else1
@@ -80,10 +90,12 @@ steps-requires-2 c κs = search needs
 
 returns-4 : tie.Need-returns-4
 returns-4 c =
-    record {
-      behind = behind (c .before .before);
-      unwanted = inl (rw (past (c .before .before) .before .before .before .span .ensures, c .before .steps2 .ensures) at (c .if4 .taken));
-    }
+    let looked = c .before .before in
+    spot-is (start (past looked)) Unwanted
+    (record {
+      behind = behind looked;
+      unwanted = inl (rw (past looked .before .before .before .span .ensures, c .before .steps2 .ensures) at (c .if4 .taken));
+    })
 
 -- past the test of the window
 within : (c : tie.Else4) → let a = start (past (c .before .before)) .args in steps (a .r .oldest .0) (a .s .0) < spanIn (a .r)
@@ -94,18 +106,19 @@ is-missing-requires c κs = search needs
 
 returns-5 : tie.Need-returns-5
 returns-5 c =
-    record {
-      behind = behind (c .before .before .before .before);
+    let looked = c .before .before .before .before in
+    spot-is (start (past looked)) Missing
+    (record {
+      behind = behind looked;
       within = within (c .before .before);
       marked = sym (c .before .is-missing .ensures) ∙ c .if5 .taken;
-    }
+    })
 
 returns-6 : tie.Need-returns-6
 returns-6 c =
-    record {
-      behind = behind (c .before .before .before .before);
-      unwanted = inr (within (c .before .before), sym (c .before .is-missing .ensures) ∙ c .if5 .left);
-    }
+    let looked = c .before .before .before .before in
+    spot-is (start (past looked)) Unwanted
+    (record { behind = behind looked; unwanted = inr (within (c .before .before), sym (c .before .is-missing .ensures) ∙ c .if5 .left) })
 
 pub spot-of-spec : {M : Type 1} → statement M
 spot-of-spec =

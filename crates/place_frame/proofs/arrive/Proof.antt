@@ -1,12 +1,12 @@
 -- `arrive` meets its contract: by where the number lies (Frames).
 use Prim.Native.Nat.{ℕ}
-use mathlib.Core.Path.{_≡_, refl, subst}
+use mathlib.Core.Path.{_≡_, refl, sym, _∙_}
 use native.Mathlib.Omega.{arith}
 use Rattle.ring.specs.Ring.{seen, Ahead}
 use Rattle.larq.specs.Channel.{window, reach}
-use Rattle.judging.specs.Judge.{LiesAt}
 use Rattle.judging.specs.declared.Spot.{Spot}
 use Rattle.judging.specs.declared.Spot.the-variants.{Next, Missing, Unwanted, Far}
+use Rattle.judging.proofs.Spots.{LiesAt, lies-at}
 use Rattle.place.proofs.Opening.{ahead-some, ahead-frame}
 use Rattle.place_frame.proofs.Frames.{frame-next, frame-ahead, frame-missing, frame-unwanted, frame-far}
 use borrow.Author.Needs.{needs}
@@ -27,7 +27,7 @@ start c = c .before .before .before .before .before .before .before .before
 
 lies : (c : tie.After-spot-of) (x : Spot) → c .spot-of .result ≡ x
     → LiesAt (start c .args .r) (start c .args .marks .now) (start c .args .s .0) x
-lies c x e = subst (LiesAt (start c .args .r) (start c .args .marks .now) (start c .args .s .0)) e (c .spot-of .ensures)
+lies c x e = lies-at (start c .args .r) (start c .args .marks .now) (start c .args .s .0) (sym e ∙ c .spot-of .ensures)
 
 ahead-by : (c : tie.After-spot-of) (d : ℕ) → c .spot-of .result ≡ Spot.Ahead d
     → seen (reach window) (start c .args .r .current .0) (start c .args .s .0) ≡ Ahead d
