@@ -24,8 +24,8 @@ use Rattle.judging.specs.declared.Spot.the-variants as spot
 abbrev pub timesOf : List ℕ → List ℕ → ℕ → ℕ → List ℕ
 timesOf words marks m n = times (cellsFrom (cellAt words [] marks) m n)
 
--- the parts of the test that a record is not broken: C and M are in the ring; the span is not above the window, M is missing if anything is,
--- and the times of missing numbers are in order
+-- the parts of the rules' test that a record is not broken, `sound`: C and M are in the ring; the span is not above the window, M is missing if anything is,
+-- and the times of missing numbers are in order. Together they are that test (`sound-is` of proofs/Sounds)
 abbrev pub inRing : List ℕ → Bool
 inRing words = isNumber (currentIn words) && isNumber (oldestIn words)
 
@@ -39,8 +39,8 @@ inShape c m words marks = shapely (latestIn words) (cellsFrom (cellAt words [] m
 abbrev pub eventOn : Lent → ℕ → Act ℕ → Event ℕ
 eventOn lent time act = record { key = record { destination = 0; source = 0; priority = 0 }; time = time; act = act; lent = lent }
 
--- the refusals that every event has which brings number s: those of data, since the rules' list has no more for it. A reminder has number 8 besides, and a
--- tick and a close are judged as if they had number 0 (`common-to-all` of proofs/Refusing). The handle has no part in them
+-- the refusals that every event with number s has at an open channel. They are data's: of the rules' list it can fail 1, 2, 6 and 7 there, whatever its
+-- handle. A reminder has 8 besides, and a tick and a close are judged as if they had number 0 (`common-to-all` of proofs/Refusing)
 abbrev pub common : Lent → ℕ → ℕ → Channel ℕ → List Refusal
 common lent s time c = refusals window true (c ∷ []) (eventOn lent time (frame s 0))
 

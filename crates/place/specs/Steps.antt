@@ -91,7 +91,7 @@ filledAt c t s h = filled channel.window c t h (filling (c .cells) (steps (c .ol
 abbrev pub dataAt : Channel ℕ → ℕ → ℕ → ℕ → Outcome ℕ
 dataAt c t s h = data-on channel.window c t s h (sideOf channel.window c s)
 
--- a reminder at a record that is not broken: number 8 refuses it from far
+-- a reminder at a record that is not broken: number 8 refuses it from far, as the last of the rules' list (`common-to-all` of judging/proofs/Refusing)
 abbrev pub reminderAt : Channel ℕ → ℕ → ℕ → Outcome ℕ
 reminderAt c t s =
     cond (notFar (sideOf channel.window c s)) (reminder-on channel.window c t s (sideOf channel.window c s)) (refused 8)
