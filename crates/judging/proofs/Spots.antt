@@ -59,8 +59,11 @@ module _ (r : Record) (marks : List ℕ) (s : ℕ) where
   abbrev is-within : Bool
   is-within = ltb (steps (r .oldest .0) s) (spanIn r)
 
+  next-is : is-next ≡ true → (s ≡ r .oldest .0) × (spanIn r ≡ 0)
+  next-is f = (eqb-true s (r .oldest .0) (and-left (eqb s (r .oldest .0)) _ f), eqb-true (spanIn r) 0 (and-right (eqb s (r .oldest .0)) _ f))
+
   by-next : (d : ℕ) → seen (reach window) (r .current .0) s ≡ Ahead d → (b : Bool) → is-next ≡ b → LiesAt r marks s (cond b spot.Next (spot.Ahead d))
-  by-next d e true f = next-at r s (eqb-true s (r .oldest .0) (and-left (eqb s (r .oldest .0)) _ f)) (eqb-true (spanIn r) 0 (and-right (eqb s (r .oldest .0)) _ f))
+  by-next d e true f = let x = next-is f in next-at r s (x .0) (x .1)
   by-next d e false f =
       record {
         is = e;
@@ -86,8 +89,7 @@ module _ (r : Record) (marks : List ℕ) (s : ℕ) where
   behind-spot at = ap (spotBy r marks s) (at .is)
 
   not-next : (d : ℕ) → (s ≡ r .oldest .0 → spanIn r ≡ 0 → ⊥) → (b : Bool) → is-next ≡ b → spot.Ahead d ≡ cond b spot.Next (spot.Ahead d)
-  not-next d other true f =
-      absurd (other (eqb-true s (r .oldest .0) (and-left (eqb s (r .oldest .0)) _ f)) (eqb-true (spanIn r) 0 (and-right (eqb s (r .oldest .0)) _ f)))
+  not-next d other true f = let x = next-is f in absurd (other (x .0) (x .1))
   not-next d other false f = refl
 
   -- and the other way: a number of which it is so has that spot

@@ -104,7 +104,8 @@ module _ (k : Key) where
       go true f later = absurd (let z : _≡_ {A = ℕ} 0 1 = cc (rw f at e) in let y : ⊥ = omega arith in y)
       go false f later = passed (place i) (placesFrom place (suc i) n) f ∙ later (rw f at e)
 
-  open-is : (q : Place ℕ) (t : Table ℕ) (i : ℕ) (f : Found) → isOpen (channels k t) ≡ isFound f → isOpen (channels k (q ∷ t)) ≡ isFound (cond (isOf k q) (At i) f)
+  open-is : (q : Place ℕ) (t : Table ℕ) (i : ℕ) (f : Found) → isOpen (channels k t) ≡ isFound f
+      → isOpen (channels k (q ∷ t)) ≡ isFound (cond (isOf k q) (At i) f)
   open-is free t i f e = e
   open-is (held j c) t i f e = go (sameKey j k)
     where

@@ -24,7 +24,7 @@ tableLent keys words handles marks up returned nack =
 abbrev pub eventBy : Lent → ℕ → Act Unit → Event Unit
 eventBy l priority act = record { key = record { destination = 0; source = 0; priority = priority }; time = 0; act = act; lent = l }
 
--- the number that 1 to 3 lead to, or 0: data and a reminder are alike in it, and a tick and a close are judged as a reminder with number 0
+-- the number that 1 to 3 lead to, or 0: data and a reminder are alike in it, and a tick, a close and a look are judged as a reminder with number 0
 unfoldable pub earlyNumber : Lent → ℕ → ℕ → ℕ
 earlyNumber l number priority = first (early window (eventBy l priority (reminder number)))
 
@@ -61,7 +61,7 @@ leadsTo Found.Nothing spare = 1 ∷ placesOf spare
 -- What is to be said of an event by the rules' list of numbers 1 to 5. `place` is the key's and `spare` the free one: that they are found says of the
 -- table what the list asks of it (`known-is-open`, `spare-is-room` of proofs/Stored).
 
--- of a reminder, tick or close: the first number that refuses it, or the place of its channel. That a place is free has no part in it, since
+-- of a reminder, tick, close or look: the first number that refuses it, or the place of its channel. That a place is free has no part in it, since
 -- number 4 comes before number 5
 abbrev pub wayFor : Lent → ℕ → ℕ → Found → Said
 wayFor l number priority place =

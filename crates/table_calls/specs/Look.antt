@@ -1,5 +1,6 @@
 -- What a look at a channel's record tells a host: nothing changes by it. The numbers 1, 3, 4 and 6 of document 01, 'Numbers the box may answer with',
--- in that order, which is the order of the rules' list (`look-refusals` of proofs/Viewing); else C, M, the latest time, and each number from M to C, waiting or missing.
+-- in that order, which is the order of the rules' list (`look-refusals` of proofs/Viewing); else C, M, the latest time, and each number from M to C,
+-- waiting or missing.
 use Prim.Native.Nat.{ℕ}
 use mathlib.Core.Path.{_≡_}
 use mathlib.Core.Bool.{Bool, cond, _&&_}
