@@ -25,6 +25,7 @@
 #![warn(missing_docs)]
 
 pub mod lent;
+mod numbered;
 pub mod rate;
 pub mod raw;
 mod refusal;

@@ -1,28 +1,20 @@
 //! The capability sets of one station.
 
+use crate::numbered::numbered;
 use crate::raw;
 use crate::Refusal;
 
 pub use crate::raw::Frame;
 
-/// What the host is to do with its retransmit timer.
-#[derive(Clone, Copy, Debug, PartialEq, Eq, Hash)]
-#[repr(u8)]
-pub enum Timer {
-    /// Nothing.
-    Kept = 0,
-    /// Cancel it if it runs, and start it.
-    Started = 1,
-    /// Cancel it if it runs.
-    Cancelled = 2,
-}
-
-impl Timer {
-    /// All orders, by rising number.
-    pub const ALL: [Timer; 3] = [Timer::Kept, Timer::Started, Timer::Cancelled];
-
-    fn of_number(number: u8) -> Option<Timer> {
-        Timer::ALL.into_iter().find(|order| *order as u8 == number)
+numbered! {
+    /// What the host is to do with its retransmit timer.
+    Timer {
+        /// Nothing.
+        Kept = 0,
+        /// Cancel it if it runs, and start it.
+        Started = 1,
+        /// Cancel it if it runs.
+        Cancelled = 2,
     }
 }
 

@@ -96,7 +96,7 @@ fn numbers() -> Vec<String> {
         .map(|refusal| claim(&c_name("PIK", refusal), refusal.number().into()));
     let timers = Timer::ALL
         .iter()
-        .map(|order| claim(&c_name("PIK_TIMER", order), *order as usize));
+        .map(|order| claim(&c_name("PIK_TIMER", order), order.number().into()));
     lengths.chain(accepted).chain(refusals).chain(timers).collect()
 }
 
