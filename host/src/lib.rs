@@ -24,6 +24,8 @@
 #![deny(unsafe_op_in_unsafe_fn)]
 #![warn(missing_docs)]
 
+#[doc(hidden)]
+pub mod c;
 pub mod lent;
 mod numbered;
 pub mod rate;
@@ -42,4 +44,4 @@ pub const VERSION: &str = env!("CARGO_PKG_VERSION");
 
 /// Asks for the name that an archive of this major version has, so that one of another does not link.
 #[used]
-static LINKED: unsafe extern "C" fn() -> u32 = raw::pik_version_1;
+static LINKED: raw::Version = raw::pik_version_1;

@@ -16,9 +16,9 @@ pub struct Implementation {
     reminder: raw::Reminder,
     tick: raw::Tick,
     close: raw::Close,
-    station_receive: unsafe extern "C" fn(Station, u8, Frame) -> StationAnswer,
-    rate_read: unsafe extern "C" fn(*const u8, usize) -> Reading,
-    rate_write: unsafe extern "C" fn(*mut u8, usize, Request, *const u8, usize) -> Written,
+    station_receive: raw::StationReceive,
+    rate_read: raw::RateRead,
+    rate_write: raw::RateWrite,
 }
 
 /// The archive.
