@@ -26,6 +26,25 @@ pub struct Channel {
     pub priority: u8,
 }
 
+impl Channel {
+    /// Whose the place with these two key words is, as `docs/LAYOUT.md` has them, if it is not free. They are those of a
+    /// channel that the archive opened.
+    pub(crate) fn of_key([first, source]: [u64; 2]) -> Option<Channel> {
+        let place = first.checked_sub(1)?;
+        Some(Channel {
+            destination: address(place / 16),
+            source: address(source),
+            priority: (place % 16) as u8,
+        })
+    }
+}
+
+/// The address that is this number, the first octet highest.
+fn address(number: u64) -> [u8; 6] {
+    let [_, _, octets @ ..] = number.to_be_bytes();
+    octets
+}
+
 /// The four slices of a table, lent for a call. `docs/LAYOUT.md` says what they hold; all zeros is the empty table.
 #[derive(Debug)]
 pub struct Slices<'a> {

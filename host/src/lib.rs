@@ -5,9 +5,10 @@
 //! - [`rate`] reads and writes rate request frames.
 //!
 //! The work is done in the archive `libwallbox.a`, each of whose functions is proved to do what is said of it on every
-//! input. This crate adds nothing but Rust's types, so that safe code cannot break what the archive leaves to its
-//! caller: pointers that are valid and aligned, lengths that are theirs, and slices that are apart. [`raw`] has the
-//! archive's functions as they are, and [`lent`] the channel events on any slices of the caller's.
+//! input. This crate adds Rust's types, so that safe code cannot break what the archive leaves to its caller: pointers
+//! that are valid and aligned, lengths that are theirs, and slices that are apart. Beside them it adds that a table names
+//! its open channels, and closes all of them. [`raw`] has the archive's functions as they are, and [`lent`] the channel
+//! events on any slices of the caller's.
 //!
 //! ```
 //! use pikurandal::{Channel, Table};

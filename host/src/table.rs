@@ -7,7 +7,15 @@ use crate::{raw, Refusal};
 /// does not come.
 ///
 /// A frame's body stays with the host; the table sees a handle. Of each handle that is taken, the table says once that it
-/// goes up or comes back, unless it still waits.
+/// goes up or comes back, unless it still waits. So a table cannot be cloned: both would say it.
+///
+/// ```compile_fail
+/// let table = pikurandal::Table::new();
+/// let both = (table.clone(), table);
+/// ```
+///
+/// A table that is dropped or emptied drops the handles that wait in it without a word, and the host keeps their bodies for
+/// ever. [`close_all`](Table::close_all) gives these handles back first.
 ///
 /// A channel has a current number, the newest that it knows to be sent, and an oldest missing number, which it expects
 /// next. Numbers 0 to 4,095 go round: 0 follows 4,095, and of two numbers it is the shorter way that says which one is
@@ -16,11 +24,11 @@ use crate::{raw, Refusal};
 ///
 /// A time is the host's count of ticks, in a unit of the host's. On one channel it may stand still but not go back. Each
 /// event that is not refused sets the channel's latest time. One call serves one channel: a host with several open
-/// channels ticks each of them.
+/// channels ticks each of those that [`channels`](Table::channels) names.
 ///
 /// Numbers to be asked for again are told once, in the call that finds them missing. Sending the request, and again
 /// later, is the host's part.
-#[derive(Clone, Debug)]
+#[derive(Debug)]
 pub struct Table {
     keys: Box<[u64]>,
     words: Box<[u64]>,
@@ -148,7 +156,41 @@ impl Table {
         self.event(|slices, buffers| lent::close(slices, buffers, channel, time))
     }
 
-    /// The empty table again: no channel is open, and no handle is kept. What waited is not returned.
+    /// Closes every channel, each at its latest time, so that none is refused. All handles that wait come back: channel by
+    /// channel, in sequence order in each. The table is then the empty one, and may be dropped.
+    ///
+    /// ```
+    /// # let channel = pikurandal::Channel { destination: [2, 0, 0, 0, 0, 1], source: [2, 0, 0, 0, 0, 2], priority: 3 };
+    /// let mut table = pikurandal::Table::new();
+    /// table.data(&channel, 100, 10, 1010)?;
+    /// table.data(&channel, 101, 12, 1012)?; // waits for number 11
+    /// assert_eq!(table.close_all(), [1012]);
+    /// # Ok::<(), pikurandal::Refusal>(())
+    /// ```
+    pub fn close_all(&mut self) -> Vec<u32> {
+        let channels: Vec<Channel> = self.channels().collect();
+        let mut handles = Vec::new();
+        for channel in &channels {
+            let latest = self.look(channel).map(|record| record.latest);
+            let closed = latest.and_then(|latest| self.close(channel, latest));
+            handles.extend_from_slice(
+                closed
+                    .expect("an open channel, whose record is the archive's own")
+                    .returned,
+            );
+        }
+        handles
+    }
+
+    /// The open channels, by their places.
+    pub fn channels(&self) -> impl Iterator<Item = Channel> + '_ {
+        self.keys
+            .chunks_exact(2)
+            .filter_map(|key| Channel::of_key([key[0], key[1]]))
+    }
+
+    /// The empty table again: no channel is open, and no handle is kept. What waited is not returned;
+    /// [`close_all`](Table::close_all) returns it.
     pub fn empty(&mut self) {
         // The slices have their lengths, so no number can refuse it.
         lent::empty(self.slices_and_buffers().0);
