@@ -3,7 +3,7 @@
 use crate::implementations::Implementation;
 use crate::measure::ROOM;
 use crate::scenarios::{Events, Scenarios, Single};
-use compare::sessions::request_of;
+use compare::players::{request_of, Archive};
 use peer::make::Maker;
 use peer::random::Random;
 use peer::receiver::ChannelEvent;
@@ -22,7 +22,8 @@ const LARGEST_ROOM: u16 = 1_600;
 /// against the independent program's.
 pub fn seen(implementations: &[Implementation], scenarios: &Scenarios) -> Result<(), String> {
     let archive = &implementations[0];
-    compare::sessions::compare(1, TRIED, |_| ()).map_err(|mismatch| format!("{}: {mismatch}", archive.name))?;
+    compare::sessions::compare(&mut Archive::begin(), 1, TRIED, |_| ())
+        .map_err(|mismatch| format!("{}: {mismatch}", archive.name))?;
     for implementation in implementations {
         on_lent_tables(implementation)?;
         on_frames(implementation, archive)?;
@@ -40,7 +41,10 @@ pub fn seen(implementations: &[Implementation], scenarios: &Scenarios) -> Result
 fn on_lent_tables(implementation: &Implementation) -> Result<(), String> {
     let taken =
         |slices: Slices<'_>, buffers: Buffers<'_>, event: &ChannelEvent| implementation.take(slices, buffers, event);
-    compare::lent::compare(&taken, 1, TRIED, |_| ()).map_err(|mismatch| format!("{}: {mismatch}", implementation.name))
+    match compare::lent::compare(&taken, 1, TRIED, |_| ()) {
+        Ok(_) => Ok(()),
+        Err(mismatch) => Err(format!("{}: {mismatch}", implementation.name)),
+    }
 }
 
 /// Each call of a scenario, judged by the independent program, which also has to give the number that the name says.
@@ -49,6 +53,9 @@ fn on_calls(implementation: &Implementation, events: &Events) -> Result<(), Stri
         |slices: Slices<'_>, buffers: Buffers<'_>, event: &ChannelEvent| implementation.take(slices, buffers, event);
     let mut random = Random::from_seed(1);
     let mut tables = events.start.clone();
+    if events.calls.is_empty() {
+        return Err(format!("'{}' has no calls", events.name));
+    }
     for (table, event) in &events.calls {
         let (expected, _) = peer::lent::take(&tables[*table].slices(), events.buffers, event);
         is_as_named(events.name, expected.number)?;
@@ -124,15 +131,23 @@ fn on_scenarios(
 /// The frames and requests of a random session, refused ones too.
 fn on_frames(implementation: &Implementation, archive: &Implementation) -> Result<(), String> {
     let mut random = Random::from_seed(1);
+    let mut compared = 0;
     for (index, event) in (0..TRIED).zip(Maker::from_seed(1)) {
         let station = any_station(&mut random);
         let litter = random.octet();
-        if answered(implementation, &event, station, litter) != answered(archive, &event, station, litter) {
+        let given = answered(implementation, &event, station, litter);
+        if given != answered(archive, &event, station, litter) {
             return Err(format!(
                 "{}: event {index}, {event:?}, is answered otherwise",
                 implementation.name
             ));
         }
+        compared += u64::from(given.is_some());
+    }
+    if compared < TRIED / 10 {
+        return Err(format!(
+            "of {TRIED} events of a session only {compared} are frames or requests"
+        ));
     }
     Ok(())
 }
@@ -173,4 +188,39 @@ fn any_station(random: &mut Random) -> Station {
 #[test]
 fn all_implementations_answer_alike() {
     assert_eq!(seen(&crate::implementations::all(), &Scenarios::all()), Ok(()));
+}
+
+/// Each comparison looks: one who does nothing is told by each of them.
+#[test]
+fn an_implementation_that_does_nothing_is_told() {
+    let (archive, nothing) = (&crate::implementations::ARCHIVE, &crate::implementations::NOTHING);
+    let scenarios = Scenarios::all();
+    assert!(seen(&[*archive, *nothing], &scenarios).is_err());
+    assert!(on_lent_tables(nothing).is_err());
+    assert!(on_frames(nothing, archive).is_err());
+    assert!(on_scenarios(nothing, archive, &scenarios).is_err());
+    let events = scenarios.events().iter();
+    let right = events.filter(|events| on_calls(nothing, events).is_ok());
+    // A tick at the latest time, by which nothing is given up, is answered with zeros and changes nothing.
+    assert_eq!(
+        right.map(|events| events.name).collect::<Vec<&str>>(),
+        ["tick, full window, none overdue"]
+    );
+    for (name, single) in scenarios.singles() {
+        let left_to_the_archive = matches!(single, Single::Receive(..));
+        assert_eq!(on_single(nothing, name, single).is_ok(), left_to_the_archive, "{name}");
+    }
+}
+
+#[test]
+fn a_scenario_without_calls_is_told() {
+    let scenarios = Scenarios::all();
+    let without = |events: &Events| Events {
+        name: events.name,
+        start: events.start.clone(),
+        calls: Vec::new(),
+        buffers: events.buffers,
+    };
+    let archive = &crate::implementations::ARCHIVE;
+    assert!(on_calls(archive, &without(&scenarios.events()[0])).is_err());
 }

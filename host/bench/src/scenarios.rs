@@ -1,7 +1,7 @@
 //! What is measured: for each scenario the tables at its start and the calls, or the frames.
 
 use crate::measure::Stage;
-use compare::sessions::request_of;
+use compare::players::request_of;
 use peer::lent::Lent;
 use peer::rate::Band;
 use peer::receiver::{Act, Buffers, ChannelEvent};

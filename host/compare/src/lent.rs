@@ -1,21 +1,25 @@
 //! Random lent tables (sound, broken, with doubled keys, of wrong lengths), random buffers and calls, judged by `peer`.
 
-use crate::Mismatch;
-use peer::answer::Answer;
+use crate::{all_of, Mismatch};
+use peer::answer::{Answer, Number};
 use peer::lent::{judge, Lent, Slices};
 use peer::make::tables::{self, FreePlaces};
 use peer::random::Random;
 use peer::receiver::{Act, Buffers, ChannelEvent};
 use peer::record::{Cell, Record};
-use peer::table::Table;
+use peer::table::{Key, Table};
 use pikurandal::{lent, raw, Channel};
 
 /// A channel event on slices: the implementation that is compared.
 pub type Taken<'a> = &'a dyn Fn(lent::Slices<'_>, lent::Buffers<'_>, &ChannelEvent) -> raw::Answer;
 
+/// A look at slices, with the buffers for marks and values: the implementation that is compared. It is lent the slices to
+/// be written, so that one that does so can be seen.
+pub type Looked<'a> = &'a dyn Fn(lent::Slices<'_>, &Channel, &mut [u8], &mut [u64]) -> raw::View;
+
 /// The archive's channel events, through the binding.
 pub fn archive(slices: lent::Slices<'_>, buffers: lent::Buffers<'_>, event: &ChannelEvent) -> raw::Answer {
-    let channel = channel(event);
+    let channel = channel_of(&event.key);
     match event.act {
         Act::Data(number, handle) => lent::data(slices, buffers, &channel, event.time, number, handle),
         Act::Reminder(number) => lent::reminder(slices, buffers, &channel, event.time, number),
@@ -24,12 +28,33 @@ pub fn archive(slices: lent::Slices<'_>, buffers: lent::Buffers<'_>, event: &Cha
     }
 }
 
-/// The binding's channel of an event.
-pub fn channel(event: &ChannelEvent) -> Channel {
+/// The archive's look, through the binding.
+pub fn archive_look(slices: lent::Slices<'_>, channel: &Channel, waits: &mut [u8], values: &mut [u64]) -> raw::View {
+    let shown = lent::Shown {
+        keys: slices.keys,
+        words: slices.words,
+        handles: slices.handles,
+        marks: slices.marks,
+    };
+    lent::look(shown, channel, waits, values)
+}
+
+/// The binding's channel of a key.
+pub fn channel_of(key: &Key) -> Channel {
     Channel {
-        destination: event.key.destination,
-        source: event.key.source,
-        priority: event.key.priority,
+        destination: key.destination,
+        source: key.source,
+        priority: key.priority,
+    }
+}
+
+/// A table's slices, lent for a call.
+fn slices_of(table: &mut Lent) -> lent::Slices<'_> {
+    lent::Slices {
+        keys: &mut table.keys,
+        words: &mut table.words,
+        handles: &mut table.handles,
+        marks: &mut table.marks,
     }
 }
 
@@ -51,14 +76,15 @@ impl Owned {
     }
 }
 
-/// Makes tables of this seed and calls on each, until there were so many calls.
-pub fn compare(taken: Taken<'_>, seed: u64, calls: u64, progress: impl FnMut(u64)) -> Result<(), Mismatch> {
+/// Makes tables of this seed and calls on each, until there were so many calls. Gives the number that were compared.
+pub fn compare(taken: Taken<'_>, seed: u64, calls: u64, progress: impl FnMut(u64)) -> Result<u64, Mismatch> {
     on_random_tables(seed, calls, progress, |random, table| one_call(taken, random, table))
 }
 
-/// Makes tables of this seed and looks at channels of each through the binding, until there were so many looks.
-pub fn compare_looks(seed: u64, looks: u64, progress: impl FnMut(u64)) -> Result<(), Mismatch> {
-    on_random_tables(seed, looks, progress, one_look)
+/// Makes tables of this seed and looks at channels of each, until there were so many looks. Gives the number that were
+/// compared.
+pub fn compare_looks(looked: Looked<'_>, seed: u64, looks: u64, progress: impl FnMut(u64)) -> Result<u64, Mismatch> {
+    on_random_tables(seed, looks, progress, |random, table| one_look(looked, random, table))
 }
 
 fn on_random_tables(
@@ -66,7 +92,7 @@ fn on_random_tables(
     calls: u64,
     mut progress: impl FnMut(u64),
     call: impl Fn(&mut Random, &mut Lent) -> Result<(), String>,
-) -> Result<(), Mismatch> {
+) -> Result<u64, Mismatch> {
     let mut random = Random::from_seed(seed);
     let mut index = 0;
     while index < calls {
@@ -82,7 +108,7 @@ fn on_random_tables(
         }
         progress(index);
     }
-    Ok(())
+    all_of(seed, calls, index)
 }
 
 fn one_call(taken: Taken<'_>, random: &mut Random, table: &mut Lent) -> Result<(), String> {
@@ -100,65 +126,62 @@ pub fn judged(
     let before = table.clone();
     let had = Owned::of_litter(random, lengths);
     let mut has = had.clone();
-    let counts = taken(
-        lent::Slices {
-            keys: &mut table.keys,
-            words: &mut table.words,
-            handles: &mut table.handles,
-            marks: &mut table.marks,
-        },
-        lent::Buffers {
-            up: &mut has.up,
-            returned: &mut has.returned,
-            nack: &mut has.nack,
-        },
-        event,
-    );
+    let buffers = lent::Buffers {
+        up: &mut has.up,
+        returned: &mut has.returned,
+        nack: &mut has.nack,
+    };
+    let counts = taken(slices_of(table), buffers, event);
     let asked = format!("{event:?} with {lengths:?} is answered {counts:?}");
     let answer = answer_of(&counts, &has).ok_or_else(|| format!("{asked}: a count is above its buffer's length"))?;
     judge(&before.slices(), (lengths, event), &answer, &table.slices())
         .map_err(|complaint| format!("{asked}, {answer:?}; peer: {complaint:?}"))?;
     rest_is_untouched(&counts, &had, &has).map_err(|buffer| format!("{asked}: {buffer} is written past its count"))?;
-    match changed_places(&before.slices(), &table.slices()) {
-        0 | 1 => Ok(()),
-        places => Err(format!("{asked}: the words of {places} places changed")),
+    match other_change(&before.slices(), &event.key, &table.slices()) {
+        None => Ok(()),
+        Some(place) => Err(format!(
+            "{asked}: place {place} changed, which the call does not address"
+        )),
     }
 }
 
-/// A look with buffers of any length. `peer` has no number 1 for a look: it is given where a slice or a buffer does not fit.
-fn one_look(random: &mut Random, table: &mut Lent) -> Result<(), String> {
+/// A look with buffers of any length.
+fn one_look(looked: Looked<'_>, random: &mut Random, table: &mut Lent) -> Result<(), String> {
     let (lengths, event) = tables::call(random, &table.slices());
     let had_waits: Vec<u8> = (0..lengths.up).map(|_| random.octet()).collect();
     let had_values: Vec<u64> = (0..lengths.returned).map(|_| random.word()).collect();
-    let (mut waits, mut values) = (had_waits.clone(), had_values.clone());
-    let shown = lent::Shown {
-        keys: &table.keys,
-        words: &table.words,
-        handles: &table.handles,
-        marks: &table.marks,
-    };
-    let view = lent::look(shown, &channel(&event), &mut waits, &mut values);
-    let room = lengths.up >= Buffers::ENTRIES && lengths.returned >= Buffers::ENTRIES;
-    let expected = match Table::from_slices(&table.slices()) {
-        Some(table) if room => table.look(&event.key).cloned(),
-        _ => Err(1),
-    };
-    let (expected_view, cells) = match &expected {
-        Ok(record) => (view_of(record), record.cells.as_slice()),
-        Err(number) => (refused_view(*number), [].as_slice()),
-    };
-    let expected_waits: Vec<u8> = cells.iter().map(|cell| matches!(cell, Cell::Waits(_)).into()).collect();
-    let expected_values: Vec<u64> = cells.iter().map(value).collect();
-    let as_expected = view == expected_view
-        && waits == [&expected_waits, &had_waits[cells.len()..]].concat()
-        && values == [&expected_values, &had_values[cells.len()..]].concat();
-    if as_expected {
-        return Ok(());
+    let before = table.clone();
+    let record = record_shown(&before.slices(), lengths, &event.key);
+    let cells = record.as_ref().map_or([].as_slice(), |record| &record.cells);
+    let expected = (
+        record.as_ref().map_or_else(|number| refused_view(*number), view_of),
+        [&cells.iter().map(mark).collect::<Vec<u8>>(), &had_waits[cells.len()..]].concat(),
+        [
+            &cells.iter().map(value).collect::<Vec<u64>>(),
+            &had_values[cells.len()..],
+        ]
+        .concat(),
+    );
+    let (mut waits, mut values) = (had_waits, had_values);
+    let view = looked(slices_of(table), &channel_of(&event.key), &mut waits, &mut values);
+    let given = (view, waits, values);
+    let asked = || format!("a look at {:?} with {lengths:?}", event.key);
+    if *table != before {
+        return Err(format!("{} changes the table", asked()));
     }
-    Err(format!(
-        "a look at {:?} with {lengths:?} shows {view:?}, {waits:?}, {values:?}; peer: {expected:?}",
-        event.key
-    ))
+    if given != expected {
+        return Err(format!("{} shows {given:?}; peer: {expected:?}", asked()));
+    }
+    Ok(())
+}
+
+/// The record that a look shows. `peer` has no number 1 for a look: it is given where a slice or a buffer does not fit.
+fn record_shown(slices: &Slices<'_>, lengths: Buffers, key: &Key) -> Result<Record, Number> {
+    let room = lengths.up >= Buffers::ENTRIES && lengths.returned >= Buffers::ENTRIES;
+    match Table::from_slices(slices) {
+        Some(table) if room => table.look(key).cloned(),
+        _ => Err(1),
+    }
 }
 
 fn view_of(record: &Record) -> raw::View {
@@ -176,6 +199,10 @@ fn refused_view(number: u8) -> raw::View {
         number,
         ..raw::View::default()
     }
+}
+
+fn mark(cell: &Cell) -> u8 {
+    matches!(cell, Cell::Waits(_)).into()
 }
 
 fn value(cell: &Cell) -> u64 {
@@ -213,15 +240,20 @@ fn rest_is_untouched(counts: &raw::Answer, had: &Owned, has: &Owned) -> Result<(
     Ok(())
 }
 
-/// Of how many places any word changed: a call addresses one, and every other keeps its very words.
-fn changed_places(before: &Slices<'_>, after: &Slices<'_>) -> usize {
+/// The first place that changed though the call does not address it: every other place keeps its very words. A call
+/// addresses the place of its channel, or else the first free one, where it may open it.
+fn other_change(before: &Slices<'_>, key: &Key, after: &Slices<'_>) -> Option<usize> {
+    let table = Table::from_slices(before);
+    let addressed = table.and_then(|table| table.channel_of(key).or_else(|| table.first_free()));
     let changed = |place: &usize| {
         part(before.keys, *place) != part(after.keys, *place)
             || part(before.words, *place) != part(after.words, *place)
             || part(before.handles, *place) != part(after.handles, *place)
             || part(before.marks, *place) != part(after.marks, *place)
     };
-    (0..lent::PLACES).filter(changed).count()
+    (0..lent::PLACES)
+        .filter(|place| Some(*place) != addressed)
+        .find(changed)
 }
 
 /// What a place has of a slice.

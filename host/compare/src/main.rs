@@ -2,29 +2,21 @@
 
 #![forbid(unsafe_code)]
 
+use compare::players::Archive;
 use compare::{lent, sessions, Mismatch};
 use std::process::ExitCode;
 
 const USAGE: &str = "\
-compare lent CALLS SEED        calls on random lent tables
-compare looks LOOKS SEED       looks at random lent tables
-compare sessions EVENTS SEED   the events of a random session";
+compare lent CALLS SEED            calls on random lent tables
+compare looks LOOKS SEED           looks at random lent tables
+compare sessions EVENTS SEED [N]   the events of a random session, or of N sessions from this seed on
+The counts are from 1 on.";
 
 fn main() -> ExitCode {
     let words: Vec<String> = std::env::args().skip(1).collect();
+    let words: Vec<&str> = words.iter().map(String::as_str).collect();
     match order(&words) {
-        Some((Part::Lent, count, seed)) => {
-            let compared = lent::compare(&lent::archive, seed, count, progress("lent tables", count));
-            report("lent tables", count, seed, compared)
-        }
-        Some((Part::Looks, count, seed)) => {
-            let compared = lent::compare_looks(seed, count, progress("looks", count));
-            report("looks", count, seed, compared)
-        }
-        Some((Part::Sessions, count, seed)) => {
-            let compared = sessions::compare(seed, count, progress("sessions", count));
-            report("sessions", count, seed, compared)
-        }
+        Some(order) => order.carried_out(),
         None => {
             eprintln!("{USAGE}");
             ExitCode::from(2)
@@ -33,32 +25,76 @@ fn main() -> ExitCode {
 }
 
 /// What is compared.
+#[derive(Clone, Copy)]
 enum Part {
     Lent,
     Looks,
     Sessions,
 }
 
-fn order(words: &[String]) -> Option<(Part, u64, u64)> {
-    let part = match words.first()?.as_str() {
-        "lent" => Part::Lent,
-        "looks" => Part::Looks,
-        "sessions" => Part::Sessions,
-        _ => return None,
-    };
-    Some((part, words.get(1)?.parse().ok()?, words.get(2)?.parse().ok()?))
+/// So many calls, looks or events of each of so many seeds, from the first one on.
+struct Order {
+    part: Part,
+    count: u64,
+    seed: u64,
+    seeds: u64,
 }
 
-fn report(part: &str, count: u64, seed: u64, compared: Result<(), Mismatch>) -> ExitCode {
-    match compared {
-        Ok(()) => {
-            println!("{part}: {count} of seed {seed} answered alike");
-            ExitCode::SUCCESS
+fn order(words: &[&str]) -> Option<Order> {
+    let (part, count, seed, seeds) = match words {
+        ["lent", count, seed] => (Part::Lent, count, seed, "1"),
+        ["looks", count, seed] => (Part::Looks, count, seed, "1"),
+        ["sessions", count, seed] => (Part::Sessions, count, seed, "1"),
+        ["sessions", count, seed, seeds] => (Part::Sessions, count, seed, *seeds),
+        _ => return None,
+    };
+    let order = Order {
+        part,
+        count: count.parse().ok()?,
+        seed: seed.parse().ok()?,
+        seeds: seeds.parse().ok()?,
+    };
+    let all = order.count.checked_mul(order.seeds)?;
+    order.seed.checked_add(order.seeds)?;
+    (all > 0).then_some(order)
+}
+
+impl Order {
+    fn carried_out(&self) -> ExitCode {
+        let name = match self.part {
+            Part::Lent => "lent tables",
+            Part::Looks => "looks",
+            Part::Sessions => "sessions",
+        };
+        match self.compared(name) {
+            Ok(compared) => {
+                let seeds = match self.seeds {
+                    1 => format!("seed {}", self.seed),
+                    seeds => format!("{seeds} seeds from {} on", self.seed),
+                };
+                println!("{name}: {compared} of {seeds} answered alike");
+                ExitCode::SUCCESS
+            }
+            Err(mismatch) => {
+                println!("{name}: MISMATCH at {mismatch}");
+                ExitCode::FAILURE
+            }
         }
-        Err(mismatch) => {
-            println!("{part}: MISMATCH at {mismatch}");
-            ExitCode::FAILURE
+    }
+
+    /// How many were compared, if all were answered alike.
+    fn compared(&self, name: &'static str) -> Result<u64, Mismatch> {
+        let mut progress = progress(name, self.count * self.seeds);
+        let mut compared = 0;
+        for seed in self.seed..self.seed + self.seeds {
+            let progress = |done| progress(compared + done);
+            compared += match self.part {
+                Part::Lent => lent::compare(&lent::archive, seed, self.count, progress),
+                Part::Looks => lent::compare_looks(&lent::archive_look, seed, self.count, progress),
+                Part::Sessions => sessions::compare(&mut Archive::begin(), seed, self.count, progress),
+            }?;
         }
+        Ok(compared)
     }
 }
 
