@@ -2,13 +2,13 @@
 
 #![forbid(unsafe_code)]
 
-use peer::make::{self, Ending, Maker};
+use peer::make::{self, Ending};
 use peer::{session, story};
 use std::io::{self, BufWriter, Read, Write};
 use std::process::ExitCode;
 
 const USAGE: &str = "\
-peer make SEED EVENTS [cut|unreadable]   writes a random session to standard output
+peer make SEED EVENTS [cut|unreadable]   writes a random session of so many events, 1 or more, to standard output
 peer answer                              answers the session on standard input, a line for each event
 peer story                               writes the example session of the east dormitory to standard output";
 
@@ -39,29 +39,22 @@ fn main() -> ExitCode {
 }
 
 fn order(words: &[&str]) -> Option<Order> {
-    match words {
-        ["make", seed, events] => Some(Order::Make(seed.parse().ok()?, events.parse().ok()?, Ending::Whole)),
-        ["make", seed, events, "cut"] => Some(Order::Make(seed.parse().ok()?, events.parse().ok()?, Ending::Cut)),
-        ["make", seed, events, "unreadable"] => Some(Order::Make(
-            seed.parse().ok()?,
-            events.parse().ok()?,
-            Ending::Unreadable,
-        )),
-        ["answer"] => Some(Order::Answer),
-        ["story"] => Some(Order::Story),
-        _ => None,
-    }
+    let (seed, events, ending) = match words {
+        ["answer"] => return Some(Order::Answer),
+        ["story"] => return Some(Order::Story),
+        ["make", seed, events] => (seed, events, Ending::Whole),
+        ["make", seed, events, "cut"] => (seed, events, Ending::Cut),
+        ["make", seed, events, "unreadable"] => (seed, events, Ending::Unreadable),
+        _ => return None,
+    };
+    let events = events.parse().ok().filter(|events| *events > 0)?;
+    Some(Order::Make(seed.parse().ok()?, events, ending))
 }
 
 fn carry_out(order: &Order) -> io::Result<()> {
     let mut output = BufWriter::new(io::stdout().lock());
     match order {
-        Order::Make(seed, events, ending) => {
-            for event in Maker::from_seed(*seed).take(*events) {
-                output.write_all(&session::entry(&event.to_body()))?;
-            }
-            output.write_all(&make::ending(*seed, *ending))?;
-        }
+        Order::Make(seed, events, ending) => make::session(*seed, *events, *ending, &mut output)?,
         Order::Answer => {
             let mut stream = Vec::new();
             io::stdin().lock().read_to_end(&mut stream)?;

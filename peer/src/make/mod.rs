@@ -13,6 +13,7 @@ use crate::random::Random;
 use crate::session::{self, Event};
 use channels::Channels;
 use stations::Stations;
+use std::io::{self, Write};
 
 /// A maker of random sessions: it goes along with the table, so that it knows which numbers and times are at the edges.
 #[derive(Clone, Debug)]
@@ -75,6 +76,14 @@ pub enum Ending {
     Cut,
     /// With a body that is unreadable, and some more octets.
     Unreadable,
+}
+
+/// Writes the session of this seed: so many events, and then its ending.
+pub fn session(seed: u64, events: usize, ending: Ending, output: &mut impl Write) -> io::Result<()> {
+    for event in Maker::from_seed(seed).take(events) {
+        output.write_all(&session::entry(&event.to_body()))?;
+    }
+    output.write_all(&self::ending(seed, ending))
 }
 
 /// The octets a session's stream ends with, after its events.
