@@ -1,2 +1,3 @@
 pub mod Trip
+pub mod Samples
 pub mod Cases
