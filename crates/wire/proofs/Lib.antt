@@ -11,3 +11,4 @@ pub mod AllBelow
 pub mod Table
 pub mod Parts
 pub mod OneOutcome
+pub mod Cases
