@@ -3,3 +3,4 @@ pub mod Again
 pub mod Runs
 pub mod OneOutcome
 pub mod Unread
+pub mod Instances
