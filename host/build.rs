@@ -10,6 +10,11 @@ use std::{env, fs, process};
 
 fn main() {
     let arch = env::var("CARGO_CFG_TARGET_ARCH").unwrap_or_default();
+    // x32 is named x86_64 too, and its pointers and lengths are not those of the archive.
+    if env::var("CARGO_CFG_TARGET_POINTER_WIDTH").as_deref() != Ok("64") {
+        eprintln!("The archive is for machines whose pointers have 64 bits, and not for x32.");
+        process::exit(1);
+    }
     let folder = match arch.as_str() {
         "x86_64" => "target/staticlib".to_string(),
         other => format!("target/staticlib/{other}"),
