@@ -4,8 +4,8 @@ use Prim.Native.Nat.{ℕ}
 use mathlib.Core.Path.{_≡_, refl, ap, sym}
 use mathlib.Core.Bool.{Bool, true, false, cond}
 use mathlib.Core.List.{List, [], _∷_}
-use native.Mathlib.Omega.{arith}
-use Rattle.wire.specs.Answers.{Said, accepted, refused}
+use Rattle.wire.specs.Answers.{accepted, refused}
+use Rattle.wire.proofs.Said.{number-is, values-are, some-none}
 use Rattle.wire.specs.Refusals.{Refusal, answered}
 use Rattle.wire.proofs.ByCases.{AllPass}
 use Rattle.ring.specs.Ring.{isNumber}
@@ -17,15 +17,6 @@ use Rattle.record.specs.declared.Record.{Record}
 use Rattle.judging.specs.Judge.{common, judgedSays, judgedFor}
 use Rattle.judging.specs.declared.Judged.{Judged}
 use Rattle.judging.specs.declared.Judged.the-variants.{Refused, Open}
-
-number-is : (p q : Said) → p ≡ q → p .number ≡ q .number
-number-is p q e = ap (λ (s : Said). s .number) e
-
-values-are : (p q : Said) → p ≡ q → p .values ≡ q .values
-values-are p q e = ap (λ (s : Said). s .values) e
-
-some-none : (v : ℕ) (vs : List ℕ) → (v ∷ vs) ≡ [] → ⊥
-some-none v vs e = let z : _≡_ {A = ℕ} 0 1 = cc in omega arith
 
 -- what is said by a list of tests where good input has values: a number is that by which the list refuses, whatever it answers to good input
 pub said-refused : {A : Type 0} (refuse : ℕ → A) (good : A) (l : List Refusal) (v : ℕ) (vs : List ℕ) (n : ℕ) → refused n ≡ answered refused l (accepted (v ∷ vs))

@@ -6,12 +6,13 @@ use mathlib.Core.Logic.{_⊎_, inl, inr, ⊎-elim}
 use mathlib.Core.Bool.{Bool, true, false, cond}
 use native.Mathlib.Omega.{arith}
 use mathlib.Core.List.{List, [], _∷_, map}
+use lib.ListN.{take}
 use Rattle.wire.proofs.ByCases.{answered-same-or-both}
-use Rattle.wire.specs.Refusals.{Refusal, _else_}
+use Rattle.wire.specs.Refusals.{Refusal}
 use Rattle.larq.specs.Channel.{Channel}
 use Rattle.larq.specs.Answer.{Answer, Outcome, refused}
 use Rattle.larq.specs.Events.{Act, frame, reminder, tick, close}
-use Rattle.larq.specs.Table.{Key, sameKey, Table, channels, room, Event, lentEnough, numberInRing, priorityFits, isData, done, one, outcome, step}
+use Rattle.larq.specs.Table.{Key, sameKey, Table, channels, room, Event, wayRefusals, done, one, outcome, step}
 use Rattle.larq.specs.Run.{answers, eventsOf, answersTo}
 use Rattle.larq.specs.Demands.{told, toldOf, full, justOne, AgreeButFull}
 use Rattle.larq.proofs.Cases.{told-decides}
@@ -60,7 +61,7 @@ module _ {H : Type 0} (w : ℕ) where
 
   -- the tests before number 5, where the key has no channel
   abbrev before-5 : Event H → List Refusal
-  before-5 e = (lentEnough w (e .lent) else 1) ∷ ((numberInRing (e .act) else 2) ∷ ((priorityFits (e .key) else 3) ∷ ((isData (e .act) else 4) ∷ [])))
+  before-5 e = take 4 (wayRefusals w false false e)
 
   -- that a place is free matters to number 5 alone
   spare-or-full : (cs : List (Channel H)) (e : Event H)

@@ -7,7 +7,8 @@ use mathlib.Core.List.{List, [], _∷_, _++_}
 use native.Mathlib.Omega.{arith}
 use lib.Dec.{leb}
 use Rattle.wire.specs.Refusals.{Refusal, _else_, first, answered}
-use Rattle.wire.specs.Answers.{Said, accepted, refused}
+use Rattle.wire.specs.Answers.{accepted, refused}
+use Rattle.wire.proofs.Said.{number-is, values-are, some-none}
 use Rattle.larq.specs.Channel.{window}
 use Rattle.larq.specs.Table.{Key, Lent, lentEnough}
 use Rattle.table.specs.First.{firstPlace, stores, storesNone}
@@ -52,15 +53,6 @@ unfolding earlyNumber
 data-way-says l number priority place spare = data-by-tests (lentEnough window l) (leb number 4095) (leb priority 7) place spare
 
 -- ways that say the same are the same, so what a way says settles it
-values-are : (p q : Said) → p ≡ q → p .values ≡ q .values
-values-are p q e = ap (λ (s : Said). s .values) e
-
-number-is : (p q : Said) → p ≡ q → p .number ≡ q .number
-number-is p q e = ap (λ (s : Said). s .number) e
-
-some-none : (i : ℕ) (l : List ℕ) → (i ∷ l) ≡ [] → ⊥
-some-none i l e = let z : _≡_ {A = ℕ} 0 1 = cc in omega arith
-
 pub one-way : (v w : Way) → waySays v ≡ waySays w → v ≡ w
 one-way (Way.Known i) (Way.Known j) e = let vs = values-are (accepted (i ∷ [])) (accepted (j ∷ [])) e in ap Way.Known (cc)
 one-way (Way.Known i) (Way.Refused n) e = absurd (some-none i [] (values-are (accepted (i ∷ [])) (refused n) e))

@@ -12,3 +12,4 @@ pub mod Table
 pub mod Parts
 pub mod OneOutcome
 pub mod Cases
+pub mod Said
