@@ -1,3 +1,4 @@
 pub mod Accepted
 pub mod OneOutcome
 pub mod Held
+pub mod Cases
