@@ -80,6 +80,10 @@ in-with i a b = rw (flag-with i a b) (one-of (flag i a) (flag i b) (omega arith)
 pub in-without : (i a b : ℕ) → i < 32 → Word b → (i isIn a without b) ↔ ((i isIn a) × (i isNotIn b))
 in-without i a b h l = rw (flag-without i a b h l) (λ e. (omega arith, omega arith), λ e. omega arith)
 
+-- what is not in a set is in no part of it
+pub not-in-without : (i a b : ℕ) → i isNotIn a → i isNotIn a without b
+not-in-without i a b h = omega (arith, flag-and i a ((2 ^ 32 - 1) - b))
+
 -- ---- two words are equal, or some flag is in one of them alone
 
 record Apart (k a b : ℕ) : Type 0 where

@@ -22,7 +22,7 @@ unequal : (a b : ℕ) → (not (eqb a b) ≡ true) ↔ (a ≢ b)
 unequal a b = (λ e. eqb-false a b (not-true (eqb a b) e), λ n. ap not (ne-eqb a b n))
 
 -- in neither of two sets
-in-neither : (i a b : ℕ) → (i isNotIn a with b) ↔ ((i isNotIn a) × (i isNotIn b))
+pub in-neither : (i a b : ℕ) → (i isNotIn a with b) ↔ ((i isNotIn a) × (i isNotIn b))
 in-neither i a b = rw (flag-with i a b) (λ e. (omega arith, omega arith), λ e. omega arith)
 
 -- in the first set and in neither of two others

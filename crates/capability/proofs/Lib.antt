@@ -3,4 +3,5 @@ pub mod Bits
 pub mod Flags
 pub mod Formulas
 pub mod Aging
+pub mod Hearing
 pub mod Instance
