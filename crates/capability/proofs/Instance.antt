@@ -7,8 +7,7 @@ use native.Mathlib.Omega.{arith}
 use Rattle.capability.specs.declared.Frame.{Frame}
 use Rattle.capability.specs.declared.Station.{Station}
 use Rattle.capability.specs.Sets.{currentTx, currentRx}
-use Rattle.capability.specs.Answers.{refused}
-use Rattle.capability.specs.Events.{fresh, takenAway, received}
+use Rattle.capability.specs.Events.{fresh, takenAway}
 use Rattle.capability.specs.Flags.{_isIn_, _isNotIn_}
 use Rattle.capability.specs.Run.{Event, useOf, periodEnd, frameWith, run, periodEnds, EachUse, EachFrame, AgesHeard}
 use Rattle.capability.proofs.Aging.{ages}
@@ -80,12 +79,3 @@ dropped-at-once = taken-is-gone 31 0 dropped (run station (frameWith 0 far ∷ [
 pub worked-out-rx : run station (frameWith 0 far ∷ frameWith 0 dropped ∷ next) .rx ≡ record { new = 0; previous = 0b1000_0001 }
 unfolding run takenAway
 worked-out-rx = refl
-
--- ---- opcodes
-
--- a frame of opcode 1 is taken, one of opcode 2 is refused by number 30 and leaves the station
-pub opcode-1-taken : received station 1 heard .number ≡ 0
-opcode-1-taken = refl
-
-pub opcode-2-refused : received station 2 heard ≡ refused 30 station
-opcode-2-refused = refl

@@ -1,4 +1,5 @@
 pub mod OneOutcome
+pub mod Cases
 pub mod Bits
 pub mod Flags
 pub mod Formulas

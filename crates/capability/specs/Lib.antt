@@ -3,3 +3,4 @@ pub mod Answers
 pub mod Events
 pub mod Flags
 pub mod Run
+pub mod Cases
