@@ -1,6 +1,7 @@
 -- Document 01, 'Runs at the edges': the P cases and the reminder 75, with a few beside them, as one table, of which `runs` (proofs/Runs) is the one statement. Handles are
 -- numbers here; a case's frames carry 1, 2, 3 in the order of its calls.
 use Prim.Native.Nat.{ℕ}
+use mathlib.Core.Path.{_≡_}
 use mathlib.Core.Bool.{true}
 use mathlib.Core.List.{List, [], _∷_, _++_, map}
 use lib.ListN.{replicate}
@@ -94,8 +95,6 @@ beside =
 abbrev pub cases : List Case
 cases = paper ++ beside
 
-abbrev pub found : Case → List (Answer ℕ) × List (Channel ℕ)
-found c = (answers window (c .table) (map event (c .calls)), channels key (run window (c .table) (map event (c .calls))))
-
-abbrev pub expected : Case → List (Answer ℕ) × List (Channel ℕ)
-expected c = (c .answers, c .after)
+-- the answers are those, and so is the record
+abbrev pub Holds : Case → Type 0
+Holds c = ((answers window (c .table) (map event (c .calls)) ≡ c .answers) × (channels key (run window (c .table) (map event (c .calls))) ≡ c .after))

@@ -9,5 +9,6 @@ pub mod Moving
 pub mod Renaming
 pub mod Counts
 pub mod Calls
+pub mod Rows
 pub mod Edges
 pub mod NumberCases

@@ -1,6 +1,7 @@
 -- Document 01, 'Numbers the box may answer with' and 'The channel table', as one table of cases: each number 0 to 8, the order of the
 -- numbers, the first of two places with one key, and the first free place. `numbers` (proofs/Numbers) is its one statement.
 use Prim.Native.Nat.{ℕ}
+use mathlib.Core.Path.{_≡_}
 use mathlib.Core.Bool.{Bool, true, false}
 use mathlib.Core.List.{List, [], _∷_, _++_}
 use lib.ListN.{replicate}
@@ -117,8 +118,6 @@ passes =
 abbrev pub cases : List Case
 cases = each ++ (firsts ++ passes)
 
-abbrev pub found : Case → ℕ × Table ℕ
-found c = (outcome window (c .table) (c .event) .answer .number, step window (c .table) (c .event))
-
-abbrev pub expected : Case → ℕ × Table ℕ
-expected c = (c .number, c .after)
+-- the number is that one, and so is the table
+abbrev pub Holds : Case → Type 0
+Holds c = ((outcome window (c .table) (c .event) .answer .number ≡ c .number) × (step window (c .table) (c .event) ≡ c .after))
