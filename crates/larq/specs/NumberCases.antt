@@ -100,20 +100,24 @@ firsts =
     ∷ (refuses (free ∷ []) (event enough 8 tick) 3
     ∷ (refuses (other ∷ []) (event enough 8 (frame 5 1)) 3
     ∷ (refuses (held (key 8) (left 4096 11 100 []) ∷ []) (event enough 8 tick) 3
+    ∷ (refuses (other ∷ []) (plain (reminder 8)) 4
+    ∷ (refuses (other ∷ []) (plain tick) 4
     ∷ (refuses (other ∷ []) (plain close) 4
     ∷ (refuses (stores (left 4096 11 101 [])) (plain tick) 6
     ∷ (refuses (stores (left 10 4096 100 [])) (plain (reminder 75)) 6
-    ∷ (refuses late (plain (reminder 75)) 7 ∷ []))))))))))
+    ∷ (refuses late (plain (reminder 75)) 7 ∷ []))))))))))))
 
--- none applies: at the last priority, number and distance that pass; the first free place, behind channels that differ in one part of the key; and the first of two places with one key
+-- none applies: at the last priority, number, distance and window that pass; a free place before the channel's; the first free place, behind channels that differ in one part of the key; and the first of two places with one key
 abbrev passes : List Case
 passes =
     accepts (free ∷ []) (event enough 7 (frame 4095 1)) (held (key 7) (opened 4095 100) ∷ [])
     ∷ (accepts mine (plain (reminder 74)) (stores (left 74 43 100 (replicate 32 (missing 100))))
     ∷ (accepts mine (plain (reminder 4042)) mine
+    ∷ (accepts (stores (left 42 11 100 (replicate 32 (missing 0)))) (plain (reminder 42)) (stores (left 42 11 100 (replicate 32 (missing 0))))
+    ∷ (accepts (free ∷ mine) (plain (frame 11 1)) (free ∷ (at 11 ∷ []))
     ∷ (accepts (others ++ (free ∷ (free ∷ []))) (plain (frame 10 1)) (others ++ (at 10 ∷ (free ∷ [])))
     ∷ (accepts (other ∷ (at 10 ∷ (at 20 ∷ []))) (plain (frame 11 1)) (other ∷ (at 11 ∷ (at 20 ∷ [])))
-    ∷ (accepts (other ∷ (at 10 ∷ (at 20 ∷ []))) (plain close) (other ∷ (free ∷ (at 20 ∷ []))) ∷ [])))))
+    ∷ (accepts (other ∷ (at 10 ∷ (at 20 ∷ []))) (plain close) (other ∷ (free ∷ (at 20 ∷ []))) ∷ [])))))))
 
 abbrev pub cases : List Case
 cases = each ++ (firsts ++ passes)
