@@ -7,10 +7,9 @@ use mathlib.Core.List.{List, [], _∷_}
 use native.Mathlib.Omega.{arith}
 use Rattle.ring.specs.Ring.{steps, Side, Ahead, Behind, Far}
 use Rattle.larq.specs.Channel.{Cell, Channel}
-use Rattle.larq.specs.Answer.{Outcome}
+use Rattle.larq.specs.Answer.{Outcome, Dated}
 use Rattle.larq.specs.Events.{Act, frame, reminder, tick, close, filling, filled, data-on, reminder-on, sideOf, act-on}
 use Rattle.larq.specs.Table.{Table, channels, room, Event, isData, done, outcome}
-use Rattle.larq.specs.Demands.{Dated}
 use Rattle.larq.proofs.Cases.{Passes, one-case}
 
 module _ {H : Type 0} (w : ℕ) where

@@ -10,7 +10,7 @@ use Rattle.larq.specs.Channel.{Cell, waits, missing, Channel, waiting}
 use Rattle.larq.specs.Answer.{Answer}
 use Rattle.larq.specs.Events.{close, close-on, act-on}
 use Rattle.larq.specs.Table.{Table, channels, room, Event, one, outcome}
-use Rattle.larq.specs.Demands.{handleIn, waitsWith, gathered, inSequence}
+use Rattle.larq.specs.Sequence.{handleIn, waitsWith, gathered, inSequence}
 use Rattle.larq.proofs.Cases.{accepted-passes}
 use Rattle.larq.proofs.Sound.{sound-is}
 use Rattle.larq.proofs.Restart.{FarFrame, restart-leaves}

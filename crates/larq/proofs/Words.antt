@@ -8,11 +8,12 @@ use native.Mathlib.Omega.{arith}
 use lib.ListN.{length, getD}
 use Rattle.ring.specs.Ring.{side, distance}
 use Rattle.larq.specs.Channel.{waits, missing, Channel, span, window}
-use Rattle.larq.specs.Answer.{Answer, same, holds, freed, accepted}
+use Rattle.larq.specs.Answer.{Answer, same, holds, freed, accepted, Dated}
 use Rattle.larq.specs.Events.{Act, frame, reminder, tick, close, opened}
 use Rattle.larq.specs.Table.{Key, sameKey, Event}
 use Rattle.larq.specs.Run.{empty, eventsOf, answersTo}
-use Rattle.larq.specs.Demands.{Told, told, untilClosed, AgreeButFull, Anew, Dated, restarts, UpFirst, waitsWith, inSequence}
+use Rattle.larq.specs.Demands.{Told, told, untilClosed, AgreeButFull, Anew, restarts, UpFirst}
+use Rattle.larq.specs.Sequence.{waitsWith, inSequence}
 use Rattle.larq.specs.Counts.{sent, Note, Within, Rising, allUp}
 use Rattle.larq.specs.Calls.{allReturned, indexed, occurrences, AcceptedData}
 

@@ -1,5 +1,6 @@
 -- What a call answers, and what becomes of the channel's place. Document 01, 'The four channel events' and 'Numbers the box may answer with'.
 use Prim.Native.Nat.{ℕ}
+use mathlib.Core.Path.{_≡_}
 use mathlib.Core.List.{List, []}
 use Rattle.larq.specs.Channel.{Channel}
 
@@ -28,3 +29,9 @@ refused n = record { answer = record { number = n; up = []; returned = []; nack 
 abbrev pub accepted : {H : Type 0} → List H → List H → List ℕ → ℕ → Change H → Outcome H
 accepted up returned nack lost change =
     record { answer = record { number = 0; up = up; returned = returned; nack = nack; lost = lost }; change = change }
+
+-- what a call leaves that isn't refused: a record whose latest time is the call's, or a free place
+abbrev pub Dated : {H : Type 0} → ℕ → Change H → Type 0
+Dated t same = ⊥
+Dated t (holds c) = c .latest ≡ t
+Dated t freed = Unit

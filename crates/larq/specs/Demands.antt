@@ -1,14 +1,12 @@
--- The words in which demand 3 is put: what survives a restart, what one channel may learn of another, and what goes up at once.
-use Prim.Native.Nat.{ℕ, zero, suc}
+-- The words in which demand 3 is put: what the rules read of an event, what survives a restart, what one channel may learn of another, and what goes up at once.
+use Prim.Native.Nat.{ℕ}
 use mathlib.Core.Path.{_≡_}
 use mathlib.Core.Bool.{Bool, true, false, cond, _&&_, not}
-use mathlib.Core.Option.{Option, some, none}
 use mathlib.Core.List.{List, [], _∷_, map}
-use lib.ListN.{length}
 use lib.Dec.{eqb}
-use Rattle.ring.specs.Ring.{steps, rising, Far}
-use Rattle.larq.specs.Channel.{Cell, waits, missing, Channel}
-use Rattle.larq.specs.Answer.{Answer, Change, same, holds, freed, Outcome}
+use Rattle.ring.specs.Ring.{Far}
+use Rattle.larq.specs.Channel.{Channel}
+use Rattle.larq.specs.Answer.{Answer, Outcome}
 use Rattle.larq.specs.Events.{Act, frame, reminder, tick, close, sideOf}
 use Rattle.larq.specs.Table.{Key, Event, lentEnough, notFar}
 use Rattle.larq.specs.Run.{eventsOf}
@@ -65,36 +63,6 @@ abbrev pub Anew : {H : Type 0} → ℕ → List (Channel H) → ℕ → Type 0
 Anew w [] s = Unit
 Anew w (c ∷ cs) s = sideOf w c s ≡ Far
 
--- what a call leaves that isn't refused: a record whose latest time is the call's, or a free place
-abbrev pub Dated : {H : Type 0} → ℕ → Change H → Type 0
-Dated t same = ⊥
-Dated t (holds c) = c .latest ≡ t
-Dated t freed = Unit
-
 -- h goes up first
 abbrev pub UpFirst : {H : Type 0} → H → Outcome H → Type 0
 UpFirst h o = (hs : List _) × (o .answer .up ≡ h ∷ hs)
-
--- the handle with which the i-th number of a window waits, if it does
-abbrev pub handleIn : {H : Type 0} → List (Cell H) → ℕ → Option H
-handleIn [] i = none
-handleIn (waits h ∷ cs) zero = some h
-handleIn (missing t ∷ cs) zero = none
-handleIn (c ∷ cs) (suc i) = handleIn cs i
-
--- the handle with which the number n of the ring waits, if it does
-abbrev pub waitsWith : {H : Type 0} → Channel H → ℕ → Option H
-waitsWith c n = handleIn (c .cells) (steps (c .oldest) n)
-
-abbrev pub also : {H : Type 0} → Option H → List H → List H
-also none hs = hs
-also (some h) hs = h ∷ hs
-
--- what numbers wait with, one number after the other
-abbrev pub gathered : {H : Type 0} → (ℕ → Option H) → List ℕ → List H
-gathered f [] = []
-gathered f (n ∷ ns) = also (f n) (gathered f ns)
-
--- what waits from M to C, in sequence order
-abbrev pub inSequence : {H : Type 0} → Channel H → List H
-inSequence c = gathered (waitsWith c) (rising (c .oldest) (length (c .cells)))

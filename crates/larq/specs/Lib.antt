@@ -5,6 +5,7 @@ pub mod Events
 pub mod Table
 pub mod Run
 pub mod Demands
+pub mod Sequence
 pub mod Moving
 pub mod Renaming
 pub mod Counts

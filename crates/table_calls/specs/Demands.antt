@@ -8,7 +8,8 @@ use Rattle.larq.specs.Answer.{Answer}
 use Rattle.larq.specs.Events.{frame, opened, sideOf}
 use Rattle.larq.specs.Table.{Key, channels, Event}
 use Rattle.larq.specs.Run.{empty, run, answers, eventsOf, answersTo}
-use Rattle.larq.specs.Demands.{Anew, inSequence, untilClosed}
+use Rattle.larq.specs.Demands.{Anew, untilClosed}
+use Rattle.larq.specs.Sequence.{inSequence}
 use Rattle.larq.specs.Renaming.{on-answer, on-table, own}
 use Rattle.larq.specs.Counts.{Note, Rising, allUp, countOf, marked}
 use Rattle.larq.specs.Calls.{allReturned, waitingIn, indexed, occurrences}
