@@ -1,6 +1,6 @@
 //! Channel events on lent tables.
 
-use crate::{assert_told, free_place, lent_again, SEED, TRIED};
+use crate::{assert_told, free_place, lent_again, KEY, LATEST, SEED, SLOTS, TRIED, WORDS};
 use compare::lent::{archive, compare};
 use peer::receiver::{Act, ChannelEvent};
 use pikurandal::lent::{Buffers, Slices};
@@ -28,10 +28,10 @@ impl Done<'_> {
             .iter()
             .fold(0, |number, &octet| number * 256 + u64::from(octet));
         let elsewhere = |slot: &usize| {
-            let key = &self.slices.keys[slot / 32 * 2..][..2];
+            let key = &self.slices.keys[slot / SLOTS * KEY..][..KEY];
             key[0] != 0 && key[1] != source && self.slices.marks[*slot] == 0
         };
-        (0..2_048).find(|slot| self.accepted() && elsewhere(slot))
+        (0..self.slices.marks.len()).find(|slot| self.accepted() && elsewhere(slot))
     }
 }
 
@@ -112,7 +112,7 @@ const SLIPS: [(&str, &str, Slip); 17] = [
     }),
     ("a second place, where it means something", "peer: Place(", |done| {
         if let Some(slot) = done.unmarked_slot_elsewhere() {
-            done.slices.words[slot / 32 * 35 + 2] ^= 1;
+            done.slices.words[slot / SLOTS * WORDS + LATEST] ^= 1;
         }
     }),
     (
@@ -126,13 +126,13 @@ const SLIPS: [(&str, &str, Slip); 17] = [
     ),
     ("a free place that is scribbled in", "peer: Place(", |done| {
         if let (true, Some(place)) = (done.accepted(), free_place(&done.slices)) {
-            done.slices.words[place * 35 + 34] ^= 1;
+            done.slices.words[place * WORDS + WORDS - 1] ^= 1;
         }
     }),
     ("a handle left in a freed place", "peer: Place(", |done| {
         let closed = done.accepted() && done.event.act == Act::Close;
         if let (true, Some(place)) = (closed, free_place(&done.slices)) {
-            done.slices.handles[place * 32] = 7;
+            done.slices.handles[place * SLOTS] = 7;
         }
     }),
 ];

@@ -1,6 +1,6 @@
 //! Looks at lent tables.
 
-use crate::{assert_told, free_place, lent_again, SEED, TRIED};
+use crate::{assert_told, free_place, lent_again, LATEST, SEED, SLOTS, TRIED, WORDS};
 use compare::lent::{archive_look, compare_looks};
 use pikurandal::lent::Slices;
 use pikurandal::raw::View;
@@ -49,11 +49,11 @@ const SLIPS: [(&str, &str, Slip); 11] = [
         done.values
             .last_mut()
             .into_iter()
-            .take(usize::from(done.view.span < 32))
+            .take(usize::from(done.view.span < SLOTS))
             .for_each(|value| *value ^= 1);
     }),
     ("a free place that is scribbled in", "changes the table", |done| {
-        let free = free_place(&done.slices).and_then(|place| done.slices.words.get_mut(place * 35 + 34));
+        let free = free_place(&done.slices).and_then(|place| done.slices.words.get_mut(place * WORDS + WORDS - 1));
         free.into_iter().for_each(|word| *word ^= 1);
     }),
     (
@@ -71,10 +71,10 @@ const SLIPS: [(&str, &str, Slip); 11] = [
             let shown = done
                 .slices
                 .words
-                .chunks_mut(35)
-                .find(|words| words[2] == done.view.latest);
+                .chunks_mut(WORDS)
+                .find(|words| words[LATEST] == done.view.latest);
             if let (0, Some(words)) = (done.view.number, shown) {
-                words[2] += 1;
+                words[LATEST] += 1;
                 done.view.latest += 1;
             }
         },

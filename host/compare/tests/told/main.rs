@@ -7,9 +7,17 @@ mod looks;
 mod sessions;
 
 use compare::Mismatch;
-use pikurandal::lent::Slices;
+use pikurandal::lent::{self, Slices};
 
 const SEED: u64 = 1;
+
+/// What a place has of each slice.
+const KEY: usize = lent::KEYS / lent::PLACES;
+const WORDS: usize = lent::WORDS / lent::PLACES;
+const SLOTS: usize = lent::HANDLES / lent::PLACES;
+
+/// Which of its words is the latest time.
+const LATEST: usize = 2;
 
 /// How many calls, looks or events each wrong implementation is tried on.
 const TRIED: u64 = 5_000;
@@ -37,5 +45,5 @@ fn lent_again<'a>(slices: &'a mut Slices<'_>) -> Slices<'a> {
 
 /// The first free place.
 fn free_place(slices: &Slices<'_>) -> Option<usize> {
-    slices.keys.chunks(2).position(|key| key[0] == 0)
+    slices.keys.chunks(KEY).position(|key| key[0] == 0)
 }
