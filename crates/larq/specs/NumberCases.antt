@@ -60,8 +60,8 @@ late = held (key 0) (opened 10 101) ∷ []
 abbrev stores : Channel ℕ → Table ℕ
 stores c = held (key 0) c ∷ []
 
-abbrev left : ℕ → ℕ → ℕ → List (Cell ℕ) → Channel ℕ
-left c m t cells = record { current = c; oldest = m; latest = t; cells = cells }
+abbrev having : ℕ → ℕ → ℕ → List (Cell ℕ) → Channel ℕ
+having c m t cells = record { current = c; oldest = m; latest = t; cells = cells }
 
 -- each number by itself, for each part of its condition
 abbrev each : List Case
@@ -77,12 +77,12 @@ each =
     ∷ (refuses (other ∷ (free ∷ [])) (plain tick) 4
     ∷ (refuses (other ∷ (free ∷ [])) (plain close) 4
     ∷ (refuses (other ∷ []) (plain (frame 5 1)) 5
-    ∷ (refuses (stores (left 4096 11 100 [])) (plain (frame 11 1)) 6
-    ∷ (refuses (stores (left 10 4096 100 [])) (plain (frame 11 1)) 6
-    ∷ (refuses (stores (left 43 11 100 (replicate 33 (missing 50)))) (plain tick) 6
-    ∷ (refuses (stores (left 11 11 100 (waits 3 ∷ []))) (plain tick) 6
-    ∷ (refuses (stores (left 11 11 100 (missing 101 ∷ []))) (plain close) 6
-    ∷ (refuses (stores (left 12 11 100 (missing 60 ∷ (missing 50 ∷ [])))) (plain tick) 6
+    ∷ (refuses (stores (having 4096 11 100 [])) (plain (frame 11 1)) 6
+    ∷ (refuses (stores (having 10 4096 100 [])) (plain (frame 11 1)) 6
+    ∷ (refuses (stores (having 43 11 100 (replicate 33 (missing 50)))) (plain tick) 6
+    ∷ (refuses (stores (having 11 11 100 (waits 3 ∷ []))) (plain tick) 6
+    ∷ (refuses (stores (having 11 11 100 (missing 101 ∷ []))) (plain close) 6
+    ∷ (refuses (stores (having 12 11 100 (missing 60 ∷ (missing 50 ∷ [])))) (plain tick) 6
     ∷ (refuses late (plain (frame 11 1)) 7
     ∷ (refuses late (plain (reminder 11)) 7
     ∷ (refuses late (plain tick) 7
@@ -99,21 +99,21 @@ firsts =
     ∷ (refuses (other ∷ []) (plain (frame 4096 1)) 2
     ∷ (refuses (free ∷ []) (event enough 8 tick) 3
     ∷ (refuses (other ∷ []) (event enough 8 (frame 5 1)) 3
-    ∷ (refuses (held (key 8) (left 4096 11 100 []) ∷ []) (event enough 8 tick) 3
+    ∷ (refuses (held (key 8) (having 4096 11 100 []) ∷ []) (event enough 8 tick) 3
     ∷ (refuses (other ∷ []) (plain (reminder 8)) 4
     ∷ (refuses (other ∷ []) (plain tick) 4
     ∷ (refuses (other ∷ []) (plain close) 4
-    ∷ (refuses (stores (left 4096 11 101 [])) (plain tick) 6
-    ∷ (refuses (stores (left 10 4096 100 [])) (plain (reminder 75)) 6
+    ∷ (refuses (stores (having 4096 11 101 [])) (plain tick) 6
+    ∷ (refuses (stores (having 10 4096 100 [])) (plain (reminder 75)) 6
     ∷ (refuses late (plain (reminder 75)) 7 ∷ []))))))))))))
 
 -- none applies: at the last priority, number, distance and window that pass; a free place before the channel's; the first free place, behind channels that differ in one part of the key; and the first of two places with one key
 abbrev passes : List Case
 passes =
     accepts (free ∷ []) (event enough 7 (frame 4095 1)) (held (key 7) (opened 4095 100) ∷ [])
-    ∷ (accepts mine (plain (reminder 74)) (stores (left 74 43 100 (replicate 32 (missing 100))))
+    ∷ (accepts mine (plain (reminder 74)) (stores (having 74 43 100 (replicate 32 (missing 100))))
     ∷ (accepts mine (plain (reminder 4042)) mine
-    ∷ (accepts (stores (left 42 11 100 (replicate 32 (missing 0)))) (plain (reminder 42)) (stores (left 42 11 100 (replicate 32 (missing 0))))
+    ∷ (accepts (stores (having 42 11 100 (replicate 32 (missing 0)))) (plain (reminder 42)) (stores (having 42 11 100 (replicate 32 (missing 0))))
     ∷ (accepts (free ∷ mine) (plain (frame 11 1)) (free ∷ (at 11 ∷ []))
     ∷ (accepts (others ++ (free ∷ (free ∷ []))) (plain (frame 10 1)) (others ++ (at 10 ∷ (free ∷ [])))
     ∷ (accepts (other ∷ (at 10 ∷ (at 20 ∷ []))) (plain (frame 11 1)) (other ∷ (at 11 ∷ (at 20 ∷ [])))
