@@ -1,3 +1,4 @@
+#![tactic(auto)]
 // The capability sets of one station: what it announces, what it hears from others, when it sends a frame and what its retransmit timer does.
 // Document 01, 'Capability sets'; 001, 6.5.3 to 6.5.5. Each of the 32 bits is a flag, and every word is a set, so no station is refused.
 ghost use Rattle.std.specs.Prelude.{◌≡◌};
@@ -6,7 +7,7 @@ ghost use Rattle.capability.specs.Answers.{order_of, order_number, start_if, can
 ghost use Rattle.capability.specs.Events.{fresh, unannounced, added_tx, rolled_tx, rolled_rx, really_new, taken_away, heard_rx, used, ended, received};
 
 // NewTx, PreviousTx and OldestTx: the flags that the station used in this period, the one before, and the one before that.
-#[derive(Drop)]
+#[derive(Clone, Copy)]
 pub struct Tx {
     pub new: u32,
     pub previous: u32,
@@ -14,13 +15,13 @@ pub struct Tx {
 }
 
 // NewRx and PreviousRx: the flags that others announced in this period and the one before.
-#[derive(Drop)]
+#[derive(Clone, Copy)]
 pub struct Rx {
     pub new: u32,
     pub previous: u32,
 }
 
-#[derive(Drop)]
+#[derive(Clone, Copy)]
 pub struct Station {
     pub default: u32,
     pub tx: Tx,
@@ -28,7 +29,7 @@ pub struct Station {
 }
 
 // The sets in a capability frame: OldestTx, CurrentTx and CurrentRx of its sender.
-#[derive(Drop)]
+#[derive(Clone, Copy)]
 pub struct Frame {
     pub oldest: u32,
     pub current: u32,
@@ -36,7 +37,7 @@ pub struct Frame {
 }
 
 // The order for the retransmit timer, which runs in the host.
-#[derive(Drop)]
+#[derive(Clone, Copy)]
 pub enum Timer {
     // As it was, running or not.
     Kept,
@@ -48,7 +49,7 @@ pub enum Timer {
 
 // The answer to an event. A frame is to be sent now if `sends`; `frame` has the sets as they now are, sent or not; `reported` are the flags that are
 // really new.
-#[derive(Drop)]
+#[derive(Clone, Copy)]
 pub struct Answer {
     pub number: u8,
     pub station: Station,

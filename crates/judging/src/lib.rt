@@ -1,3 +1,4 @@
+#![tactic(auto)]
 // What is decided of an event before anything is written: the number that refuses it, or where its number lies.
 // Document 01, 'Numbers the box may answer with' and 'The channel table'.
 ghost use Rattle.std.specs.Prelude.{◌≡◌, ◌<◌, length};
@@ -85,7 +86,7 @@ pub fn is_sound(words: &[u64], marks: &[u8]) -> bool
 }
 
 // What is decided of an event: the number that refuses it, or the record that it acts on.
-#[derive(Drop)]
+#[derive(Clone, Copy)]
 pub enum Judged {
     Refused(u8),
     Open(Record),
@@ -123,7 +124,7 @@ pub fn judge(
 
 // Where the number of a frame lies: it is M, while nothing is missing; ahead of C by so many; in the window and missing; waiting already or
 // before M; or far. The first is what nearly every frame is, and is seen without the distance.
-#[derive(Drop)]
+#[derive(Clone, Copy)]
 pub enum Spot {
     Next,
     Ahead(u16),

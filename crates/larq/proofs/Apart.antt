@@ -46,7 +46,7 @@ module _ {H : Type 0} (w : ℕ) where
       go : (b : Bool) → same_key e.key k ≡ b → answers_to k es (answers w (step w t e) es) ≡ solo w (channels k (step w t e)) (views w k (step w t e) es)
           → cond b ((outcome w t e).answer ∷ answers_to k es (answers w (step w t e) es)) (answers_to k es (answers w (step w t e) es))
           ≡ solo w (channels k t) (cond b (view (room t) e ∷ views w k (step w t e) es) (views w k (step w t e) es))
-      go true s ih = rw (ih, ← same_key_eq e.key k s, step_own w t e)
+      go true s ih = rw (ih, ← same_key_eq e.key k s, step_own w t e) (cc (same_key_eq e.key k s))
       go false s ih = rw (ih, step_other w t e k s)
 
   -- and its events are those of the run

@@ -1,3 +1,4 @@
+#![tactic(auto)]
 // The rules of the LARQ receiver: definitions under specs/, and what follows from them under proofs/. The house's constants, and the test of the
 // room that an answer may need, are all the code.
 ghost use Rattle.std.specs.Prelude.{◌≡◌};

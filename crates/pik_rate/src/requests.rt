@@ -8,7 +8,7 @@ ghost use Rattle.pik_rate.specs.Requests.{octets_of, request_of, reading_of, wri
 
 // The six octets of an address. In C it is an array of six octets.
 #[repr(C)]
-#[derive(Drop)]
+#[derive(Clone, Copy)]
 pub struct Address {
     pub first: u8,
     pub second: u8,
@@ -20,7 +20,7 @@ pub struct Address {
 
 // The fixed fields of a request.
 #[repr(C)]
-#[derive(Drop)]
+#[derive(Clone, Copy)]
 pub struct Request {
     pub destination: Address,
     pub source: Address,
@@ -34,7 +34,7 @@ pub struct Request {
 
 // What the reader answers: the addresses are the caller's own octets, `extent` of them from `start` on.
 #[repr(C)]
-#[derive(Drop)]
+#[derive(Clone, Copy)]
 pub struct Reading {
     pub number: u8,
     pub addresses: u8,
@@ -45,7 +45,7 @@ pub struct Reading {
 
 // What the writer answers.
 #[repr(C)]
-#[derive(Drop)]
+#[derive(Clone, Copy)]
 pub struct Written {
     pub number: u8,
     pub count: usize,

@@ -7,7 +7,7 @@ ghost use Rattle.pik_station.specs.Stations.{station_of, station_for, frame_of, 
 
 // The six sets of a station, in document 01's order.
 #[repr(C)]
-#[derive(Drop)]
+#[derive(Clone, Copy)]
 pub struct Station {
     pub default_set: u32,
     pub new_tx: u32,
@@ -19,7 +19,7 @@ pub struct Station {
 
 // The three sets that a capability frame carries.
 #[repr(C)]
-#[derive(Drop)]
+#[derive(Clone, Copy)]
 pub struct Frame {
     pub oldest_tx: u32,
     pub current_tx: u32,
@@ -28,7 +28,7 @@ pub struct Frame {
 
 // The answer to an event. `timer` is 0 kept, 1 started, 2 cancelled.
 #[repr(C)]
-#[derive(Drop)]
+#[derive(Clone, Copy)]
 pub struct StationAnswer {
     pub number: u8,
     pub sends: bool,

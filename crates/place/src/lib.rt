@@ -1,3 +1,4 @@
+#![tactic(auto)]
 // A call on one open place: what it answers, and what it promises (specs/Call.antt). The laws that a frame and the events that bring none share
 // stand here too.
 ghost use Rattle.std.specs.Prelude.{◌≡◌};
@@ -10,7 +11,7 @@ use stepping::Counts;
 
 // What a call answers: the number, how many entries of each buffer it wrote, and how many numbers it gave up.
 #[repr(C)]
-#[derive(Drop)]
+#[derive(Clone, Copy)]
 pub struct Answer {
     pub number: u8,
     pub up: usize,

@@ -1,3 +1,4 @@
+#![tactic(auto)]
 // One place of the table: a data frame comes to one open channel, in place. The events that bring no frame are place_upkeep's.
 ghost use Rattle.std.specs.Prelude.{◌≤◌, ◌<◌, length};
 ghost use Rattle.larq.specs.Events.{frame};

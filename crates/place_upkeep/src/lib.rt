@@ -1,3 +1,4 @@
+#![tactic(auto)]
 // One place of the table: the events that bring no frame to one open channel, a reminder, a tick and a close, in place. Frames are place_frame's.
 ghost use Rattle.std.specs.Prelude.{◌≤◌, ◌<◌, [], length};
 ghost use Rattle.larq.specs.Events.{reminder, tick, close};

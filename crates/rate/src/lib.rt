@@ -1,3 +1,4 @@
+#![tactic(auto)]
 // The rate request: the rules that it keeps, the writer of its control frame, the rate of a PE and the chosen band (document 01, 'Rate requests, in this
 // order', 'The rate request on the wire' and 'Rate of a PE'; 001, clause 6.3.1). The reader is the crate rate_reader.
 mod rates;
@@ -11,7 +12,7 @@ pub use rules::{
 pub use writer::write;
 
 // A request, as it is read and as it is to be written. Its addresses stand beside it, in the octets that hold them.
-#[derive(Drop)]
+#[derive(Clone, Copy)]
 pub struct Request {
     pub destination: [u8; 6],
     pub source: [u8; 6],
@@ -24,7 +25,7 @@ pub struct Request {
 }
 
 // What the writer answers: 0 and how many octets it wrote, or a refusal's number and 0.
-#[derive(Drop)]
+#[derive(Clone, Copy)]
 pub struct Written {
     pub number: u8,
     pub count: usize,

@@ -8,13 +8,13 @@ use crate::Request;
 // The rate of each PE in Mbit/s; 0 where it has none.
 const RATES: [u8; 16] = [0, 4, 6, 8, 10, 12, 14, 16, 0, 8, 12, 16, 20, 24, 28, 32];
 
-#[derive(Drop)]
+#[derive(Clone, Copy)]
 pub enum Rate {
     Mbit(u8),
     None,
 }
 
-#[derive(Drop)]
+#[derive(Clone, Copy)]
 pub enum Chosen {
     Band(u8),
     None,

@@ -11,7 +11,7 @@ use rate::{band_one_right, band_two_right, group_addresses, opcode_right, ranks_
 use wire::{Checked, Field};
 
 // Both ranks at once, since number 20 speaks of the two.
-#[derive(Drop)]
+#[derive(Clone, Copy)]
 pub(crate) enum Pair {
     Ranks(u8, u8),
     Wrong,

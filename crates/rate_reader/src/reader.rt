@@ -21,7 +21,7 @@ pub fn read(frame: &[u8]) -> Reading
 }
 
 // What is received: the reading, and of the caller's frame the octets where the addresses stand. Refused, there are none.
-#[derive(Drop)]
+#[derive(Clone, Copy)]
 pub struct Received<'a> {
     pub reading: Reading,
     pub addresses: &'a [u8],

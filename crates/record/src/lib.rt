@@ -1,3 +1,4 @@
+#![tactic(auto)]
 // A channel's record by value: C, M and the latest time. Its cells stay in the lent parts (document 01, 'The channel table').
 // What becomes of its window is said here; the loops over a window's slots are in window.rt. What is decided of an event is judging's, the
 // step ahead in place stepping's.
@@ -15,7 +16,7 @@ use ring::Seq;
 use slots::{is_place, set_head};
 pub use window::{NEVER, Settled, hand};
 
-#[derive(Drop)]
+#[derive(Clone, Copy)]
 pub struct Record {
     pub current: Seq,
     pub oldest: Seq,
@@ -24,7 +25,7 @@ pub struct Record {
 
 // What a step ahead does to the window: M passes `over` numbers, of which `old` are in the window and the others would be new;
 // `count` numbers from `first` on become missing.
-#[derive(Drop)]
+#[derive(Clone, Copy)]
 pub struct Grown {
     pub kept: Record,
     pub over: usize,

@@ -9,7 +9,7 @@ use ring::Seq;
 use slots::{WORDS, handle_of, is_missing, is_place, time_of};
 
 // A record whose M has moved on, how many handles went up, and how many numbers were given up.
-#[derive(Drop)]
+#[derive(Clone, Copy)]
 pub struct Settled {
     pub kept: Record,
     pub up: usize,

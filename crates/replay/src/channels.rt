@@ -19,7 +19,7 @@ pub(crate) type Marks = [u8; SLOTS_IN_ALL];
 
 // An answer with its three lists, and the kind of the event that it is to (docs/LAYOUT.md, 'Sessions'), 0 where it is to none of the four.
 // The events give this and tell nothing: a function that has both the table and the line in hand is dear to check.
-#[derive(Drop)]
+#[derive(Clone, Copy)]
 struct Told {
     kind: u8,
     answer: Answer,

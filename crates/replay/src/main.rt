@@ -1,3 +1,4 @@
+#![tactic(auto)]
 // Answers the recorded session on standard input, a line for each event (docs/LAYOUT.md, 'Sessions').
 mod channels;
 mod rates;
@@ -12,7 +13,7 @@ use stream::Entry;
 use table::{KEYS_IN_ALL, SLOTS_IN_ALL, WORDS_IN_ALL};
 
 // What an entry leads to: the next one, with the station as it then is, or the end of the run.
-#[derive(Drop)]
+#[derive(Clone, Copy)]
 enum Turn {
     Next(Station),
     Over,
@@ -46,7 +47,7 @@ fn main() {
 }
 
 // What an entry holds: an event, in a body of so many octets, or the end of the run.
-#[derive(Drop)]
+#[derive(Clone, Copy)]
 enum Heard {
     Event(Body, u16),
     Over,

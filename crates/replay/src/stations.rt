@@ -5,7 +5,7 @@ use capability::{Answer, Frame, Station, Timer};
 use session::Body;
 
 // The station as it then is, and where its part of the line ends.
-#[derive(Drop)]
+#[derive(Clone, Copy)]
 pub(crate) struct Step {
     pub station: Station,
     pub end: usize,

@@ -3,7 +3,7 @@ ghost use Rattle.std.specs.Prelude.{◌+◌, ◌≤◌, length};
 
 use libc::STDIN_FILENO;
 
-#[derive(Drop)]
+#[derive(Clone, Copy)]
 pub(crate) enum Entry {
     // A body of so many octets, at the start of the buffer.
     Body(u16),
@@ -16,7 +16,7 @@ pub(crate) enum Entry {
 }
 
 // How a buffer was filled.
-#[derive(Drop)]
+#[derive(Clone, Copy)]
 enum Filled {
     Whole,
     // The stream ended after so many octets.
@@ -70,7 +70,7 @@ fn fill(buffer: &mut [u8]) -> Filled {
 }
 
 // What one read brought.
-#[derive(Drop)]
+#[derive(Clone, Copy)]
 struct Came {
     failed: bool,
     count: usize,

@@ -1,14 +1,15 @@
+#![tactic(auto)]
 // A place in the ring of 4,096 numbers and a signed step along it, never mixed (document 01, 'Numbers in a ring of 4,096').
 ghost use Rattle.std.specs.Prelude.{◌≡◌};
 ghost use Rattle.ring.specs.Ring.{forward, steps, distance, side, is_far, is_ahead};
 
 // A place in the ring. Every u16 is one: a value above 4,095 counts modulo 4,096, since going on past the last number comes round to the
 // first. So no call below asks anything of its caller. Whether such a value is accepted at all is settled where it comes in (numbers 2 and 6).
-#[derive(Drop)]
+#[derive(Clone, Copy)]
 pub struct Seq(pub u16);
 
 // A step along the ring: above 0 is ahead (new), 0 or below is behind (old; 001, clause 6.6.2).
-#[derive(Drop)]
+#[derive(Clone, Copy)]
 pub struct Distance(pub i32);
 
 impl Seq {

@@ -1,3 +1,4 @@
+#![tactic(auto)]
 // The round trip of a rate request through the functions themselves, both ways (document 01, 'The rate request on the wire').
 ghost use Rattle.roundtrip.specs.Trip.{ReadBack, WrittenAgain};
 
@@ -5,7 +6,7 @@ use rate::{Request, Written};
 use rate_reader::Reading;
 
 // What the writer and the reader answered.
-#[derive(Drop)]
+#[derive(Clone, Copy)]
 pub struct Trip {
     pub written: Written,
     pub reading: Reading,

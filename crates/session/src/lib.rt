@@ -1,3 +1,4 @@
+#![tactic(auto)]
 // The events of a recorded session, read from octets: one body at a time, and the length that stands before it (docs/LAYOUT.md, 'Sessions').
 // Any slice may be handed in: what is no body of a known kind and length is Unreadable.
 mod layout;
@@ -7,7 +8,7 @@ pub use layout::{length, read, rest};
 pub use numbers::octets;
 
 // A channel's key. An address is its six octets as one number, as in the lent table.
-#[derive(Drop)]
+#[derive(Clone, Copy)]
 pub struct Key {
     pub destination: u64,
     pub source: u64,
@@ -15,7 +16,7 @@ pub struct Key {
 }
 
 // The fixed fields of a rate request to be written.
-#[derive(Drop)]
+#[derive(Clone, Copy)]
 pub struct Request {
     pub destination: u64,
     pub source: u64,
@@ -28,7 +29,7 @@ pub struct Request {
 }
 
 // What a body asks for. The frame of `Read` and the addresses of `Write` stay in the body: `rest` gives them.
-#[derive(Drop)]
+#[derive(Clone, Copy)]
 pub enum Body {
     // Key, time, number, handle.
     Data(Key, u64, u16, u32),

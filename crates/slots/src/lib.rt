@@ -1,3 +1,4 @@
+#![tactic(auto)]
 // Where a place keeps what (specs/Slots.antt, docs/LAYOUT.md): every other crate asks here, by the number and not by the slot. Each function takes any
 // input: what is not there reads as 0, and is not written.
 ghost use Rattle.std.specs.Prelude.{◌≡◌, get_or, set};

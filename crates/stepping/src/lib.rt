@@ -1,3 +1,4 @@
+#![tactic(auto)]
 // The step ahead, in place: C comes to a number that lies ahead of it (document 01, 'Data' and 'Reminder'). It ends where frames and reminders
 // differ: before that number waits or not, and M settles.
 ghost use Rattle.std.specs.Prelude.{◌≡◌, ◌≤◌, length};
@@ -13,7 +14,7 @@ use slots::set_missing;
 
 // What a call answers, so far or in all: handles gone up, numbers asked for, numbers given up. It is handed on instead of an answer, which is
 // put together once.
-#[derive(Drop)]
+#[derive(Clone, Copy)]
 pub struct Counts {
     pub up: usize,
     pub nack: usize,
@@ -29,7 +30,7 @@ impl Counts {
 }
 
 // What a step ahead has done so far: the window that it leaves, and what it has answered.
-#[derive(Drop)]
+#[derive(Clone, Copy)]
 pub struct Passed {
     pub grown: Grown,
     pub had: Counts,

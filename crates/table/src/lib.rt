@@ -1,3 +1,4 @@
+#![tactic(auto)]
 // The table of 64 places that the host lends: what its slices hold, the place of a key, and where an event goes (document 01, 'The channel table').
 mod key;
 mod lookup;

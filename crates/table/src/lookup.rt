@@ -6,7 +6,7 @@ ghost use Rattle.table.specs.First.{first_from, first_place, has_word, stores, s
 use crate::{KEY_WORDS, KEYS_IN_ALL, PLACES};
 
 // What a walk over the places finds.
-#[derive(Drop)]
+#[derive(Clone, Copy)]
 pub enum Found {
     At(usize),
     Nothing,

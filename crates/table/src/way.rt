@@ -10,14 +10,14 @@ use larq::has_room;
 use ring::Seq;
 
 // To the place of its channel, or nowhere.
-#[derive(Drop)]
+#[derive(Clone, Copy)]
 pub enum Way {
     Known(usize),
     Refused(u8),
 }
 
 // Data, to the place of its channel, or to a free one, where it opens a channel, or nowhere.
-#[derive(Drop)]
+#[derive(Clone, Copy)]
 pub enum DataWay {
     Known(usize),
     Free(usize),

@@ -14,7 +14,7 @@ use table::{SLOTS, WORDS, Way, address, first_word, way_of};
 
 // What a look tells: C, M, the latest time, and how many numbers there are from M to C.
 #[repr(C)]
-#[derive(Drop)]
+#[derive(Clone, Copy)]
 pub struct View {
     pub number: u8,
     pub current: u16,

@@ -1,3 +1,4 @@
+#![tactic(auto)]
 // A data frame on the table of 64 places that the host lends (document 01, 'Data'; 001, 6.6.4). The call decides on what is lent where it goes, and
 // then changes one place: its channel's, or the free one that it opens. The events that bring no frame are table_upkeep's.
 

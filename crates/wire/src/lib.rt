@@ -1,3 +1,4 @@
+#![tactic(auto)]
 // The words of every frame format: octets, the answers of fields, refusals in their order, the short format, and laying octets into a slice.
 // Every function takes any input: past the end an octet is 0, a part that does not lie within is empty, and what does not fit is not written.
 mod answers;

@@ -1,3 +1,4 @@
+#![tactic(auto)]
 // Zeros all over a slice, whatever its length: what a freed place and an empty table hold (document 01, 'Close' and 'The channel table').
 ghost use Rattle.std.specs.Prelude.{◌≡◌, length, replicate};
 
