@@ -1,5 +1,4 @@
 pub mod Steps
-pub mod Masks
 pub mod Halves
 pub mod Sides
 pub mod Signed

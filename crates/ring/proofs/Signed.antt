@@ -1,6 +1,6 @@
 -- What the code's casts and tests on an i32 come to: the test and the subtraction of `distance`, and the tests of `is_far` and `is_ahead`.
 -- Document 01, 'Numbers in a ring of 4,096'. Nothing above this crate needs these laws: callers use Sides.
-use Prim.Native.Nat.{ℕ, zero, suc, ◌+◌, ◌-◌, ◌≤◌, ◌<◌, ◌^◌}
+use Prim.Native.Nat.{ℕ, zero, suc, ◌-◌, ◌≤◌, ◌<◌, ◌^◌}
 use mathlib.Core.Path.{◌≡◌, refl, sym, ap, ◌∙◌}
 use mathlib.Core.Bool.{Bool, true, false, cond, ◌&&◌, ◌||◌}
 use native.Mathlib.Omega.{arith}
