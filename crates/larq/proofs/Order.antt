@@ -10,7 +10,7 @@ use native.Mathlib.Decide.{dec_lt}
 use lib.ListN.{length, take, drop, replicate, length-append, length-replicate, length-drop}
 use lib.Dec.{eqb, leb, eqb-suc-zero}
 use borrow.Author.Tests.{leb-true}
-use Rattle.ring.specs.Ring.{size, forward, next, steps, seen, Side, Ahead, Behind, Far}
+use Rattle.ring.specs.Ring.{size, forward, steps, seen, Side, Ahead, Behind, Far}
 use Rattle.ring.proofs.Sides.{seen_above, seen_below}
 use Rattle.ring.proofs.Steps.{next_mod, forward_mod, steps_up, steps_down}
 use Rattle.larq.specs.Channel.{Cell, waits, missing, Channel, waiting, reach}
