@@ -14,7 +14,7 @@ use Rattle.capability.specs.declared.Frame.{Frame}
 use Rattle.capability.specs.declared.Station.{Station}
 use Rattle.capability.specs.Sets.{◌with◌, current_rx}
 use Rattle.capability.specs.Events.{rolled_rx, taken_away, heard_rx, received}
-use Rattle.capability.specs.Flags.{Word, flag, ◌isIn◌, ◌isNotIn◌}
+use Rattle.capability.specs.Flags.{Word, ◌isIn◌, ◌isNotIn◌}
 use Rattle.capability.specs.Run.{Event, use_of, period_end, frame_with, run, period_ends, EachFrame, Spares, AgesHeard}
 use Rattle.capability.proofs.Bits.{flag_with, flag_none, not_in_without}
 use Rattle.capability.proofs.Flags.{in_neither, in_new_rx, in_previous_rx, current_is_heard}

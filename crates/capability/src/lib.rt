@@ -155,6 +155,7 @@ impl Rx {
 
 impl Frame {
     // The flags that its sender no longer uses, and that leave the receiver's sets.
+    #[tactic(auto, unfolding(crate::specs::Events::taken_away))]
     fn taken_away(self) -> u32
         ensures { result ≡ taken_away self }
     {
