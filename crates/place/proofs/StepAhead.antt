@@ -9,7 +9,7 @@ use lib.ListN.{length, length-append}
 use Rattle.ring.specs.Ring.{forward, steps, rising, size}
 use Rattle.ring.proofs.Steps.{forward_small, length_rising}
 use Rattle.larq.specs.Channel as channel
-use Rattle.larq.specs.Settling.{Walked, walk, wide}
+use Rattle.larq.specs.Settling.{Walked, walk}
 use Rattle.larq.specs.Answer.{accepted, holds}
 use Rattle.larq.specs.Events.{ahead, settled_at, moved}
 use mathlib.Core.Bool.{true}
