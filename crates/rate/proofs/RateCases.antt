@@ -1,7 +1,7 @@
 -- Document 01, 'Rate of a PE', number by number: the rate of each PE, the chosen band, and the rate of a band.
 use mathlib.Core.Path.{◌≡◌, refl}
-use mathlib.Core.List.{List, [], ◌∷◌, ◌++◌, map}
-use mathlib.Core.Option.{Option, none, some}
+use mathlib.Core.List.{[], ◌∷◌, map}
+use mathlib.Core.Option.{none, some}
 use Prim.Native.Nat.{ℕ}
 use lib.ListN.{replicate}
 use Rattle.rate.specs.declared.Request.{Request}

@@ -2,7 +2,7 @@
 -- Document 01, 'Rate requests, in this order'. The whole outcome of reading and writing is tried on the table of cases of roundtrip.
 use mathlib.Core.Path.{◌≡◌, refl}
 use mathlib.Core.Bool.{true, false}
-use mathlib.Core.List.{List, [], ◌∷◌}
+use mathlib.Core.List.{List, []}
 use Prim.Native.Nat.{ℕ}
 use lib.ListN.{replicate, set}
 use Rattle.wire.specs.Octets.{all_below}

@@ -42,6 +42,7 @@ fn entry(pe: usize) -> u8
 }
 
 // The number of the chosen band: a PE of 0 is never chosen, and of two others the lower rank is.
+#[tactic(auto, unfolding(crate::specs::Rates::chosen_of))]
 pub fn chosen_band(request: Request) -> Chosen
     ensures { band_of result ≡ chosen_of request }
 {

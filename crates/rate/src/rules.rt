@@ -2,24 +2,28 @@
 ghost use Rattle.std.specs.Prelude.{◌≡◌};
 ghost use Rattle.rate.specs.Request.{opcode_right, some_band, band_one_right, band_two_right, ranks_right, group_addresses};
 
+#[tactic(auto, unfolding(crate::specs::Request::opcode_right))]
 pub fn opcode_right(opcode: u8) -> bool
     ensures { result ≡ opcode_right opcode }
 {
     opcode <= 2
 }
 
+#[tactic(auto, unfolding(crate::specs::Request::some_band))]
 pub fn some_band(bands: u8) -> bool
     ensures { result ≡ some_band bands }
 {
     bands != 0
 }
 
+#[tactic(auto, unfolding(crate::specs::Request::band_one_right))]
 pub fn band_one_right(pe: u8) -> bool
     ensures { result ≡ band_one_right pe }
 {
     wire::between(pe as usize, 1, 7)
 }
 
+#[tactic(auto, unfolding(crate::specs::Request::band_two_right))]
 pub fn band_two_right(bands: u8, pe: u8) -> bool
     ensures { result ≡ band_two_right bands pe }
 {
@@ -29,6 +33,7 @@ pub fn band_two_right(bands: u8, pe: u8) -> bool
     pe == 0 || wire::between(pe as usize, 9, 15)
 }
 
+#[tactic(auto, unfolding(crate::specs::Request::ranks_right))]
 pub fn ranks_right(bands: u8, rank1: u8, rank2: u8) -> bool
     ensures { result ≡ ranks_right bands rank1 rank2 }
 {

@@ -22,6 +22,7 @@ pub fn write(out: &mut [u8], request: Request, addresses: &[u8]) -> Written
 }
 
 // The number of the first refusal, or 0.
+#[tactic(auto, unfolding(crate::specs::Writing::writer_refusals, crate::specs::Writing::output_holds))]
 fn refusal(request: Request, addresses: &[u8], room: usize) -> u8
     ensures { result ≡ first (writer_refusals request addresses.now room) }
 {
@@ -53,6 +54,7 @@ fn refusal(request: Request, addresses: &[u8], room: usize) -> u8
 }
 
 // Whether the frame's layout can hold the request: number 23.
+#[tactic(auto, unfolding(crate::specs::Writing::layout_holds, crate::specs::Writing::ss_length_for))]
 fn layout_holds(request: Request, addresses: &[u8]) -> bool
     ensures { result ≡ layout_holds request addresses.now }
 {
@@ -69,6 +71,7 @@ fn layout_holds(request: Request, addresses: &[u8]) -> bool
     6 + 2 * request.bands as usize + octets <= 255
 }
 
+#[tactic(auto, unfolding(crate::specs::Writing::absent_band_empty))]
 fn absent_band_empty(request: Request) -> bool
     ensures { result ≡ absent_band_empty request }
 {

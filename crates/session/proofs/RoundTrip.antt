@@ -37,11 +37,15 @@ fields_read [] (v ∷ vs) before after h = absurd h
 fields_read (w ∷ ws) [] before after h = absurd h
 fields_read (w ∷ ws) (v ∷ vs) before after h =
     let later : List ℕ = fields_of ws vs ++ after in
-    let grouped : before ++ (spelled w v ++ fields_of ws vs ++ after) ≡ before ++ (spelled w v ++ later) = ap (λ (l : List ℕ). before ++ l) (append_assoc (spelled w v) (fields_of ws vs) after) in
+    let octets : List ℕ = before ++ (fields_of (w ∷ ws) (v ∷ vs) ++ after) in
+    let grouped : octets ≡ before ++ (spelled w v ++ later) = ap (λ (l : List ℕ). before ++ l) (append_assoc (spelled w v) (fields_of ws vs) after) in
+    let behind : octets ≡ (before ++ spelled w v) ++ later = grouped ∙ sym (append_assoc before (spelled w v) later) in
     let place : length (before ++ spelled w v) ≡ length before + w = length-append before (spelled w v) ∙ ap (λ (n : ℕ). length before + n) (length_spelled w v) in
-    rw grouped
-    (ap₂ ◌∷◌ (number_spelled w v before later h.0)
-    (rw (← place, ← append_assoc before (spelled w v) later) (fields_read ws vs (before ++ spelled w v) after h.1)))
+    let first : number_at octets (length before) w ≡ v =
+    ap (λ (l : List ℕ). number_at l (length before) w) grouped ∙ number_spelled w v before later h.0 in
+    let rest : fields_at octets (length before + w) ws ≡ vs =
+    ap₂ (λ (l : List ℕ) (n : ℕ). fields_at l n ws) behind (sym place) ∙ fields_read ws vs (before ++ spelled w v) after h.1 in
+    ap₂ ◌∷◌ first rest
 
 same_said : {k k' : ℕ} {vs vs' rest rest' : List ℕ} → k ≡ k' → vs ≡ vs' → rest ≡ rest'
     → ◌≡◌ {A = Saying} (record { kind = k; values = vs; rest = rest }) (record { kind = k'; values = vs'; rest = rest' })

@@ -51,12 +51,16 @@ unfolding number_at spelled
 number_spelled zero n before after h = let e : n < 1 = h in omega arith
 number_spelled (suc w) n before after h =
     let high : List ℕ = spelled w (n / 256) in
+    let octets : List ℕ = before ++ (spelled (suc w) n ++ after) in
     let whole : List ℕ = before ++ (high ++ n % 256 ∷ after) in
+    let same : octets ≡ whole = ap (λ (l : List ℕ). before ++ l) (append_snoc high (n % 256) after) in
     let fits : n / 256 < 256 ^ w = (div-lt_iff_lt-mul (lit< tt)).1 (rw pow-suc at h) in
-    let first : number_at whole (length before) w ≡ n / 256 = number_spelled w (n / 256) before (n % 256 ∷ after) fits in
-    let last : octet_at whole (length before + w) ≡ n % 256 =
-    get_or-append-add before (high ++ n % 256 ∷ after) w 0 ∙ get_or_at high (n % 256) after 0 w (length_spelled w (n / 256)) in
-    rw append_snoc (omega (arith, div-add-mod' n 256))
+    let first : number_at octets (length before) w ≡ n / 256 =
+    ap (λ (l : List ℕ). number_at l (length before) w) same ∙ number_spelled w (n / 256) before (n % 256 ∷ after) fits in
+    let last : octet_at octets (length before + w) ≡ n % 256 =
+    ap (λ (l : List ℕ). octet_at l (length before + w)) same
+    ∙ (get_or-append-add before (high ++ n % 256 ∷ after) w 0 ∙ get_or_at high (n % 256) after 0 w (length_spelled w (n / 256))) in
+    omega (arith, div-add-mod' n 256)
 
 -- octets read as a number, and spelled again, are the same octets
 pub spelled_number : (s : List ℕ) (at w : ℕ) → ((k : ℕ) → octet_at s k < 256) → at + w ≤ length s → spelled w (number_at s at w) ≡ take w (drop at s)

@@ -4,6 +4,7 @@ ghost use Rattle.session.specs.Numbers.{number_at, spelled};
 
 use wire::octet;
 
+#[tactic(auto, using(crate::proofs::Spelling::number_one))]
 pub(crate) fn one(s: &[u8], at: usize) -> u8
     ensures { result ≡ number_at s.now at 1 }
 {
@@ -53,6 +54,7 @@ pub(crate) fn eight(s: &[u8], at: usize) -> u64
 }
 
 // The six octets of an address; what a number has above 48 bits is left out.
+#[tactic(auto, unfolding(crate::specs::Numbers::spelled))]
 pub fn octets(address: u64) -> [u8; 6]
     ensures { result ≡ spelled 6 address }
 {

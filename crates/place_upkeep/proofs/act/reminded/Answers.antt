@@ -1,0 +1,27 @@
+-- What `widened` and `settle` leave is handed to the laws of the step ahead (StepAhead of place).
+use Rattle.std.proofs.Common.{◌<◌, ◌≤◌, ℕ, arith, refl}
+use Rattle.larq.specs.Channel.{window}
+use Rattle.place.proofs.Places.{finished}
+use Rattle.place.proofs.StepAhead.{stepped, widened_sized, settle_room, gone_few, ahead_did}
+use Rattle.place_upkeep.proofs.act.reminded.Goals as goal
+
+window_fits : {n : ℕ} → n ≤ window → n < 18446744073709551616
+window_fits l = omega arith
+
+pub overflow_add-result : goal.overflow_add-result
+overflow_add-result c =
+    let p = c.requires in
+    let wide = stepped p.ready.0 p.ahead p.window_in_bounds.0 p.window_in_bounds.1 c.widened-p.ensures in
+    let sized = widened_sized p.ready.0 p.ready.1 p.ahead p.window_in_bounds.0 p.window_in_bounds.1 wide in
+    record {
+      fits = window_fits (gone_few p.ready.0 p.ready.1 p.ahead p.window_in_bounds.0 p.window_in_bounds.1 wide refl refl c.settle-done.ensures.settles sized);
+    }
+
+pub returns : goal.returns
+returns c =
+    let p = c.requires in
+    let e = c.settle-done.ensures in
+    let wide = stepped p.ready.0 p.ahead p.window_in_bounds.0 p.window_in_bounds.1 c.widened-p.ensures in
+    ahead_did p.ready.0 p.ready.1 p.ahead p.window_in_bounds.0 p.window_in_bounds.1 wide refl refl
+    (finished (widened_sized p.ready.0 p.ready.1 p.ahead p.window_in_bounds.0 p.window_in_bounds.1 wide)
+    (settle_room p.ready.0 p.ready.1 p.ahead p.window_in_bounds.0 p.window_in_bounds.1 wide refl refl) e.settles e.words_after)

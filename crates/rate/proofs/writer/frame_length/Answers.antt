@@ -1,0 +1,10 @@
+-- `rate::writer::frame_length` meets its contract: the header's octets, or 60 where it has fewer.
+use Rattle.std.proofs.Common.{arith, rules}
+use Rattle.rate.proofs.Frame.{length_frame}
+use Rattle.rate.proofs.writer.frame_length.Goals as goal
+
+pub returns-then-header-lt60 : goal.returns-then-header-lt60
+returns-then-header-lt60 c = omega (arith, length_frame c.args.request c.args.addresses.now (search rules) (search rules) c.requires)
+
+pub returns-else-header-lt60 : goal.returns-else-header-lt60
+returns-else-header-lt60 c = omega (arith, length_frame c.args.request c.args.addresses.now (search rules) (search rules) c.requires)
