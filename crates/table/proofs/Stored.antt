@@ -1,7 +1,7 @@
 -- Keys by their two words: a place stores a call's key exactly if it is an open place with that key. Assumes nothing.
 use Prim.Native.Nat.{ℕ, ◌+◌, ◌-◌, ◌*◌, ◌/◌, ◌%◌, ◌≤◌}
 use mathlib.Core.Path.{◌≡◌, refl, ap, sym, ◌∙◌}
-use mathlib.Core.Bool.{Bool, true, false, cond, ◌&&◌, and_true}
+use mathlib.Core.Bool.{Bool, true, false, cond, ◌&&◌, and-true}
 use mathlib.Core.List.{List}
 use native.Mathlib.Omega.{arith}
 use borrow.Author.Tests.{eqb-true, eqb-false, eq-eqb, ne_eqb}
@@ -50,7 +50,7 @@ same_words k a b h pos = go (eqb a (first_word k)) refl
         let w = eqb-true a (first_word k) e in
         let d : (a - 1) / 16 ≡ k.destination = omega arith in
         let p : (a - 1) % 16 ≡ k.priority = omega arith in
-        rw (e, eq-eqb ((a - 1) / 16) k.destination d, eq-eqb ((a - 1) % 16) k.priority p) (and_true (eqb b k.source))
+        rw (e, eq-eqb ((a - 1) / 16) k.destination d, eq-eqb ((a - 1) % 16) k.priority p) (and-true (eqb b k.source))
     go false e =
         rw e
         (fields (eqb ((a - 1) / 16) k.destination) refl (eqb ((a - 1) % 16) k.priority) refl (eqb b k.source) (eqb-false a (first_word k) e))
