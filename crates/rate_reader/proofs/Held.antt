@@ -25,7 +25,7 @@ module _ (frame : Bor (List ℕ)) {r : Received} (received : Receives frame r) w
       simp w part.octets
 
   -- behind the fixed octets and the bands
-  pub held_there : first (refusals s) ≡ 0 → r.addresses.ptr ≡ (frame.ptr.0, 20 + 2 * bands_of s + frame.ptr.1)
+  pub held_there : first (refusals s) ≡ 0 → r.addresses.ref_ptr ≡ (frame.ref_ptr.0, 20 + 2 * bands_of s + frame.ref_ptr.1)
   unfolding read_of refusals accepted request_of
   held_there none =
       let part = rw (first_accepts refused_by (accepted s) (refusals s) refl none) at received.addresses in
