@@ -89,6 +89,23 @@ pub record Told : Type 0 where
   pub priority : ℕ
   pub time : ℕ
 
+-- the same, from what stands behind a call's references
+abbrev pub told : (keys words handles marks up returned nack destination source : List ℕ) → ℕ → ℕ → Told
+told keys words handles marks up returned nack destination source priority time =
+    record {
+      keys = keys;
+      words = words;
+      handles = handles;
+      marks = marks;
+      up = up;
+      returned = returned;
+      nack = nack;
+      destination = destination;
+      source = source;
+      priority = priority;
+      time = time;
+    }
+
 module _ (c : Told) where
   abbrev pub before : Slices
   before = slices c.keys c.words c.handles c.marks

@@ -89,8 +89,8 @@ fn look_at(
     waits: &mut [u8],
     values: &mut [u64],
 ) -> View
-    requires words_len { (length words.now ≡ place_words) × (length marks.now ≡ slots) }
-    requires window_in_bounds { (window ≤ length waits.old) × (window ≤ length values.old) }
+    requires sized { (length words.now ≡ place_words) × (length marks.now ≡ slots) }
+    requires room { (window ≤ length waits.old) × (window ≤ length values.old) }
     ensures { Looked (shown_at (record_of words.now handles.now marks.now))
         waits.old waits.new values.old values.new result }
 {
