@@ -25,13 +25,14 @@ fn main() {
     let out = env::var("OUT_DIR").unwrap_or_default();
     if let Err(fault) = taken(&Path::new(&package).join(".."), &folder, Path::new(&out)) {
         eprintln!("The archive {archive} {fault}.");
-        eprintln!("Make it, from the repository's root, {package}/..: host/archive");
+        let word = if arch == "x86_64" { "" } else { " aarch64" };
+        eprintln!("Make it, from the repository's root, {package}/..: host/archive{word}");
         process::exit(1);
     }
     if arch != "x86_64" {
         println!(
-            "cargo:warning=this archive has the proved modules compiled once more for {arch}, for tests and \
-             measurements; what is promised is the archive for x86-64"
+            "cargo:warning=this archive is proved and compiled for {arch} as it is for x86-64, but no test of its \
+             repository runs it there"
         );
     }
     println!("cargo:rustc-link-search=native={out}");

@@ -22,8 +22,8 @@ bench --instructions   instructions, counted by valgrind's callgrind";
 /// Rounds over all implementations; the best pass of all rounds counts. `TIMES` says it.
 const ROUNDS: usize = 1_000;
 
-/// What counts instructions, where the environment's BENCH_COUNTER names nothing else.
-const COUNTER: &str = "valgrind --tool=callgrind --callgrind-out-file=/dev/null";
+/// What counts instructions: a command that says them last.
+const COUNTER: [&str; 3] = ["valgrind", "--tool=callgrind", "--callgrind-out-file=/dev/null"];
 
 fn main() -> ExitCode {
     let words: Vec<String> = std::env::args().skip(1).collect();
@@ -121,13 +121,10 @@ fn instructions_of(implementation: &Implementation, name: &str, stage: &Stage<'_
     Some((many - few) / (more * stage.calls()) as f64)
 }
 
-/// All instructions of a run with so many passes, if it ended well. The counter is a command that says them last, as
-/// callgrind does.
+/// All instructions of a run with so many passes, if it ended well.
 fn collected(implementation: &Implementation, name: &str, passes: usize) -> Option<f64> {
-    let counter = std::env::var("BENCH_COUNTER").unwrap_or_else(|_| COUNTER.to_string());
-    let mut words = counter.split_whitespace();
-    let run = Command::new(words.next()?)
-        .args(words)
+    let run = Command::new(COUNTER[0])
+        .args(&COUNTER[1..])
         .arg(std::env::current_exe().ok()?)
         .args(["passes", &passes.to_string(), implementation.name, name])
         .output()
