@@ -9,6 +9,7 @@ mod text;
 use capability::Station;
 use channels::{Handles, Keys, Marks, Words};
 use session::Body;
+use std::io::Read;
 use stream::Entry;
 use table::{KEYS_IN_ALL, SLOTS_IN_ALL, WORDS_IN_ALL};
 
@@ -19,17 +20,20 @@ enum Turn {
     Over,
 }
 
-fn main() {
+fn main(rt: HostRuntime) {
     let mut keys = [0u64; KEYS_IN_ALL];
     let mut words = [0u64; WORDS_IN_ALL];
     let mut handles = [0u32; SLOTS_IN_ALL];
     let mut marks = [0u8; SLOTS_IN_ALL];
     let mut body = [0u8; 65536];
+    let mut input = rt.stdin();
     let mut station = Station::fresh(0);
     let mut index: u64 = 0;
     // A proved loop has to end, and nothing says that a stream does: no run uses so many entries up.
     while index < u64::MAX {
         let turn = taken(
+            &rt,
+            &mut input,
             &mut keys,
             &mut words,
             &mut handles,
@@ -54,7 +58,9 @@ enum Heard {
 }
 
 // Reads an entry and answers it. Each part answers its own events, and passes the others over.
-fn taken(
+fn taken<R: Print + Eprint, I: Read>(
+    rt: &R,
+    input: &mut I,
     keys: &mut Keys,
     words: &mut Words,
     handles: &mut Handles,
@@ -63,7 +69,7 @@ fn taken(
     station: Station,
     index: u64,
 ) -> Turn {
-    let heard = hear(body, index);
+    let heard = hear(rt, input, body, index);
     let Heard::Event(event, length) = heard else {
         return Turn::Over;
     };
@@ -74,48 +80,56 @@ fn taken(
     at = rates::answer(&mut line, at, event, rest);
     let step = stations::answer(&mut line, at, event, station);
     let after = step.station;
-    if sent(&mut line, step.end) {
+    if sent(rt, &mut line, step.end) {
         Turn::Next(after)
     } else {
         Turn::Over
     }
 }
 
-fn hear(body: &mut [u8; 65536], index: u64) -> Heard {
-    let entry = stream::next(body);
+fn hear<R: Print + Eprint, I: Read>(
+    rt: &R,
+    input: &mut I,
+    body: &mut [u8; 65536],
+    index: u64,
+) -> Heard {
+    let entry = stream::next(input, body);
     match entry {
-        Entry::Body(length) => read(wire::part(body, 0, length as usize), length, index),
-        Entry::Cut => ended(index, b" cut"),
-        Entry::Failed => ended(index, b" failed"),
+        Entry::Body(length) => read(rt, wire::part(body, 0, length as usize), length, index),
+        Entry::Cut => ended(rt, index, b" cut"),
+        Entry::Failed => ended(rt, index, b" failed"),
         Entry::End => Heard::Over,
     }
 }
 
-fn read(body: &[u8], length: u16, index: u64) -> Heard {
+fn read(rt: &(impl Print + Eprint), body: &[u8], length: u16, index: u64) -> Heard {
     let event = session::read(body);
     if let Body::Unreadable = event {
-        return ended(index, b" unreadable");
+        return ended(rt, index, b" unreadable");
     }
     Heard::Event(event, length)
 }
 
-// The run ends before the session does. The line says why; and since a program of the kit has no exit status to give, it is told on standard error
-// too, where a run that answers all of its session says nothing.
-fn ended(index: u64, why: &[u8]) -> Heard {
+// The run ends before the session does. The line says why; and since the program ends with the same status either way, it is told on standard error too,
+// where a run that answers all of its session says nothing.
+fn ended(rt: &(impl Print + Eprint), index: u64, why: &[u8]) -> Heard {
     let mut line = text::blank();
     let at = text::decimal(&mut line, 0, index);
     let end = text::word(&mut line, at, why);
-    if sent(&mut line, end) {
-        text::say(b"replay: the session was not answered to its end; the last line says why\n");
+    if sent(rt, &mut line, end) {
+        text::say(
+            rt,
+            "replay: the session was not answered to its end; the last line says why\n",
+        );
     }
     Heard::Over
 }
 
 // Sends a line, or says that it could not.
-fn sent(line: &mut text::Line, end: usize) -> bool {
-    if text::send(line, end) {
+fn sent(rt: &(impl Print + Eprint), line: &mut text::Line, end: usize) -> bool {
+    if text::send(rt, line, end) {
         return true;
     }
-    text::say(b"replay: the answers could not be written\n");
+    text::say(rt, "replay: the answers could not be written\n");
     false
 }

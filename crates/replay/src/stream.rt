@@ -1,7 +1,7 @@
-// The stream of entries on standard input, read one by one through a buffer of the caller's (docs/LAYOUT.md, 'Sessions').
+// The stream of entries, read one by one through a buffer of the caller's (docs/LAYOUT.md, 'Sessions').
 ghost use Rattle.std.specs.Prelude.{◌+◌, ◌≤◌, length};
 
-use libc::STDIN_FILENO;
+use std::io::{ErrorKind, Read};
 
 #[derive(Clone, Copy)]
 pub(crate) enum Entry {
@@ -24,13 +24,13 @@ enum Filled {
     Failed,
 }
 
-pub(crate) fn next(buffer: &mut [u8]) -> Entry
+pub(crate) fn next<I: Read>(input: &mut I, buffer: &mut [u8]) -> Entry
     requires { 65535 ≤ length buffer.old }
 {
     let mut prefix = [0u8; 2];
-    let spelled = fill(&mut prefix);
+    let spelled = fill(input, &mut prefix);
     match spelled {
-        Filled::Whole => body(buffer, session::length(&prefix)),
+        Filled::Whole => body(input, buffer, session::length(&prefix)),
         Filled::Ended(count) => stopped(count),
         Filled::Failed => Entry::Failed,
     }
@@ -41,11 +41,11 @@ fn stopped(count: usize) -> Entry {
     if count == 0 { Entry::End } else { Entry::Cut }
 }
 
-fn body(buffer: &mut [u8], count: u16) -> Entry
+fn body<I: Read>(input: &mut I, buffer: &mut [u8], count: u16) -> Entry
     requires { 65535 ≤ length buffer.old }
 {
     let end = count as usize;
-    let filled = fill(&mut buffer[0..end]);
+    let filled = fill(input, &mut buffer[0..end]);
     match filled {
         Filled::Whole => Entry::Body(count),
         Filled::Ended(_) => Entry::Cut,
@@ -53,11 +53,11 @@ fn body(buffer: &mut [u8], count: u16) -> Entry
     }
 }
 
-// Reads until the buffer is full. The kit's `read_full` gives the same count where the stream ends and where a read fails.
-fn fill(buffer: &mut [u8]) -> Filled {
+// Reads until the buffer is full. std's `read_exact` tells no stream that ends inside an entry from one that ends before it.
+fn fill<I: Read>(input: &mut I, buffer: &mut [u8]) -> Filled {
     let mut done = 0;
     while done < buffer.len() {
-        let came = read_on(buffer, done);
+        let came = read_on(input, buffer, done);
         if came.failed {
             return Filled::Failed;
         }
@@ -76,16 +76,25 @@ struct Came {
     count: usize,
 }
 
-// Reads once, into the buffer from a place on.
-fn read_on(buffer: &mut [u8], done: usize) -> Came
+// Reads once, into the buffer from a place on. A read that a signal interrupts before it brings anything is made again.
+fn read_on<I: Read>(input: &mut I, buffer: &mut [u8], done: usize) -> Came
     requires { done ≤ length buffer.old }
     ensures { done + result.count ≤ length buffer.old }
 {
     let part = &mut buffer[done..];
-    let got = libc::read(STDIN_FILENO, part);
-    let count = io::count(got, part);
+    // A proved loop has to end: no read is interrupted so often.
+    for _ in 0..u64::MAX {
+        match input.read(part) {
+            Ok(count) => return Came {
+                failed: false,
+                count,
+            },
+            Err(e) if e.kind() == ErrorKind::Interrupted => {}
+            Err(_) => break,
+        }
+    }
     Came {
-        failed: got < 0,
-        count,
+        failed: true,
+        count: 0,
     }
 }

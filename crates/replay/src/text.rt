@@ -1,6 +1,9 @@
 // Lines of text, put together in a buffer of the caller's: each function lays something at a place of the line and gives the place after it.
+ghost use Rattle.std.specs.Prelude.{◌≡◌, ◌-◌, ◌<◌, ◌≤◌, drop, false};
+ghost use Rattle.std.specs.Fmt.{digit_glyph};
+ghost use Rattle.replay.specs.Digits.{TakesDigits, lowest_digits};
+
 use larq::ROOM;
-use libc::{STDERR_FILENO, STDOUT_FILENO};
 
 // More than the longest line has, which tells an output of 1,600 octets in hexadecimal. What would not fit is left out.
 pub(crate) type Line = [u8; 4096];
@@ -49,14 +52,44 @@ fn past(octet: u8, numbers: &[u64], next: usize) -> usize {
 
 pub(crate) fn decimal(line: &mut Line, at: usize, number: u64) -> usize {
     let mut digits = [0u8; 20];
-    let count = io::decimal(number, &mut digits);
-    wire::lay(line, at, &digits[..count])
+    let start = spell(number, 10, 1, &mut digits);
+    wire::lay(line, at, &digits[start..])
 }
 
 pub(crate) fn hexadecimal(line: &mut Line, at: usize, number: u64, width: usize) -> usize {
-    let mut digits = [0u8; 16];
-    let count = io::hex(number, width, &mut digits);
-    wire::lay(line, at, &digits[..count])
+    let mut digits = [0u8; 20];
+    let start = spell(number, 16, width.clamp(1, 16), &mut digits);
+    wire::lay(line, at, &digits[start..])
+}
+
+// Puts a number's digits in a base at the end of the buffer, with zeros in front up to so many digits, and gives where they start.
+fn spell(number: u64, base: u64, least: usize, digits: &mut [u8; 20]) -> usize
+    requires low { 10 ≤ base }
+    requires high { base ≤ 16 }
+    requires room { least ≤ 20 }
+    ensures within { result ≤ 20 }
+    ensures count { TakesDigits base least number (20 - result) }
+    ensures digits { drop result digits.new ≡ lowest_digits base (20 - result) number }
+{
+    let mut rest = number;
+    let mut at = 20;
+    while at > 0 && (rest > 0 || 20 - at < least) {
+        at -= 1;
+        digits[at] = digit(rest % base);
+        rest /= base;
+    }
+    at
+}
+
+fn digit(value: u64) -> u8
+    requires { value < 16 }
+    ensures { result ≡ digit_glyph false value }
+{
+    if value < 10 {
+        b'0' + value as u8
+    } else {
+        b'a' - 10 + value as u8
+    }
 }
 
 // A name and octets, two digits each and nothing between; `-` where there are none.
@@ -133,12 +166,12 @@ fn number(value: u16) -> u64 {
 }
 
 // The line ends here, and goes out. Whether it did: a disk may be full, and a reader gone.
-pub(crate) fn send(line: &mut Line, at: usize) -> bool {
+pub(crate) fn send(output: &impl Print, line: &mut Line, at: usize) -> bool {
     let end = word(line, at, b"\n");
-    io::write_all(STDOUT_FILENO, wire::part(line, 0, end))
+    output.write_all(wire::part(line, 0, end)).is_ok()
 }
 
 // Says something to whoever started the program. Nobody is left to be told where this fails.
-pub(crate) fn say(what: &[u8]) {
-    io::write_all(STDERR_FILENO, what);
+pub(crate) fn say(errors: &impl Eprint, what: &str) {
+    let _ = errors.eprint(what);
 }
