@@ -9,7 +9,8 @@ mod text;
 use capability::Station;
 use channels::{Handles, Keys, Marks, Words};
 use session::Body;
-use std::io::Read;
+use std::io::{ErrorKind, Read};
+use std::process::ExitCode;
 use stream::Entry;
 use table::{KEYS_IN_ALL, SLOTS_IN_ALL, WORDS_IN_ALL};
 
@@ -17,10 +18,19 @@ use table::{KEYS_IN_ALL, SLOTS_IN_ALL, WORDS_IN_ALL};
 #[derive(Clone, Copy)]
 enum Turn {
     Next(Station),
-    Over,
+    Over(End),
 }
 
-fn main(rt: HostRuntime) {
+// How the run ends.
+#[derive(Clone, Copy)]
+enum End {
+    // All that there is to say is said.
+    Said,
+    // Nobody reads the answers any more.
+    Unread,
+}
+
+fn main(rt: HostRuntime) -> ExitCode {
     let mut keys = [0u64; KEYS_IN_ALL];
     let mut words = [0u64; WORDS_IN_ALL];
     let mut handles = [0u32; SLOTS_IN_ALL];
@@ -42,11 +52,21 @@ fn main(rt: HostRuntime) {
             station,
             index,
         );
-        let Turn::Next(after) = turn else {
-            return;
-        };
-        station = after;
+        match turn {
+            Turn::Next(after) => station = after,
+            Turn::Over(end) => return status(end),
+        }
         index += 1;
+    }
+    ExitCode::SUCCESS
+}
+
+// Where the reader of a pipe is gone, the system ends a program that knows nothing of it, by a signal that a shell tells as 141. This one is told by an error,
+// and ends with that status.
+fn status(end: End) -> ExitCode {
+    match end {
+        End::Said => ExitCode::SUCCESS,
+        End::Unread => ExitCode::from(141),
     }
 }
 
@@ -54,7 +74,7 @@ fn main(rt: HostRuntime) {
 #[derive(Clone, Copy)]
 enum Heard {
     Event(Body, u16),
-    Over,
+    Over(End),
 }
 
 // Reads an entry and answers it. Each part answers its own events, and passes the others over.
@@ -70,8 +90,9 @@ fn taken<R: Print + Eprint, I: Read>(
     index: u64,
 ) -> Turn {
     let heard = hear(rt, input, body, index);
-    let Heard::Event(event, length) = heard else {
-        return Turn::Over;
+    let (event, length) = match heard {
+        Heard::Event(event, length) => (event, length),
+        Heard::Over(end) => return Turn::Over(end),
     };
     let rest = session::rest(wire::part(body, 0, length as usize));
     let mut line = text::blank();
@@ -80,10 +101,9 @@ fn taken<R: Print + Eprint, I: Read>(
     at = rates::answer(&mut line, at, event, rest);
     let step = stations::answer(&mut line, at, event, station);
     let after = step.station;
-    if sent(rt, &mut line, step.end) {
-        Turn::Next(after)
-    } else {
-        Turn::Over
+    match sent(rt, &mut line, step.end) {
+        Ok(()) => Turn::Next(after),
+        Err(end) => Turn::Over(end),
     }
 }
 
@@ -98,7 +118,7 @@ fn hear<R: Print + Eprint, I: Read>(
         Entry::Body(length) => read(rt, wire::part(body, 0, length as usize), length, index),
         Entry::Cut => ended(rt, index, b" cut"),
         Entry::Failed => ended(rt, index, b" failed"),
-        Entry::End => Heard::Over,
+        Entry::End => Heard::Over(End::Said),
     }
 }
 
@@ -110,26 +130,30 @@ fn read(rt: &(impl Print + Eprint), body: &[u8], length: u16, index: u64) -> Hea
     Heard::Event(event, length)
 }
 
-// The run ends before the session does. The line says why; and since the program ends with the same status either way, it is told on standard error too,
-// where a run that answers all of its session says nothing.
+// The run ends before the session does. The line says why; and since the program's status is that of a run that answers all of its session, it is told on
+// standard error too, where such a run says nothing.
 fn ended(rt: &(impl Print + Eprint), index: u64, why: &[u8]) -> Heard {
     let mut line = text::blank();
     let at = text::decimal(&mut line, 0, index);
     let end = text::word(&mut line, at, why);
-    if sent(rt, &mut line, end) {
-        text::say(
-            rt,
-            "replay: the session was not answered to its end; the last line says why\n",
-        );
+    if let Err(end) = sent(rt, &mut line, end) {
+        return Heard::Over(end);
     }
-    Heard::Over
+    text::say(
+        rt,
+        "replay: the session was not answered to its end; the last line says why\n",
+    );
+    Heard::Over(End::Said)
 }
 
-// Sends a line, or says that it could not.
-fn sent(rt: &(impl Print + Eprint), line: &mut text::Line, end: usize) -> bool {
-    if text::send(rt, line, end) {
-        return true;
+// Sends a line, or says that it could not, and how the run ends by that. Where nobody reads any more, nothing is said.
+fn sent(rt: &(impl Print + Eprint), line: &mut text::Line, end: usize) -> Result<(), End> {
+    match text::send(rt, line, end) {
+        Ok(()) => Ok(()),
+        Err(e) if e.kind() == ErrorKind::BrokenPipe => Err(End::Unread),
+        Err(_) => {
+            text::say(rt, "replay: the answers could not be written\n");
+            Err(End::Said)
+        }
     }
-    text::say(rt, "replay: the answers could not be written\n");
-    false
 }

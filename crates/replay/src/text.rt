@@ -4,6 +4,7 @@ ghost use Rattle.std.specs.Fmt.{digit_glyph};
 ghost use Rattle.replay.specs.Digits.{TakesDigits, lowest_digits};
 
 use larq::ROOM;
+use std::io;
 
 // More than the longest line has, which tells an output of 1,600 octets in hexadecimal. What would not fit is left out.
 pub(crate) type Line = [u8; 4096];
@@ -165,10 +166,10 @@ fn number(value: u16) -> u64 {
     value as u64
 }
 
-// The line ends here, and goes out. Whether it did: a disk may be full, and a reader gone.
-pub(crate) fn send(output: &impl Print, line: &mut Line, at: usize) -> bool {
+// The line ends here, and goes out, or an error says why it did not: a disk may be full, and a reader gone.
+pub(crate) fn send(output: &impl Print, line: &mut Line, at: usize) -> io::Result<()> {
     let end = word(line, at, b"\n");
-    output.write_all(wire::part(line, 0, end)).is_ok()
+    output.write_all(wire::part(line, 0, end))
 }
 
 // Says something to whoever started the program. Nobody is left to be told where this fails.
