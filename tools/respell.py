@@ -18,7 +18,7 @@ LAW = "_law"
 TURNED = {"in_window": "stays_in_window", "is_open": "is_open" + LAW}
 
 WORD = r"[A-Za-z0-9_\u2080-\u2089'\u03b1-\u03c9\u2115\u2124∀-⋿*+/%&|^<>=!-]"
-DECLARED = re.compile(r"^\s*(?:abbrev |unfoldable |pub )*([^\s(){}:.,;←\[\]]+)(?: (?:\{[^}]*\}|\([^)]*\)))* :(?!=) ")
+DECLARED = re.compile(r"^\s*(?:abbrev |unfoldable |pub )*([^\s(){}:.,;←\[\]]+)(?: (?:\{[^}]*\}|\([^)]*\)))* :(?: |$)")
 BLOCK = re.compile(r"^\s*(?:pub )?(?:data|record|ruleset) ([^\s(){}:.,;]+)")
 
 

@@ -28,7 +28,7 @@ with pe1 rank1 pe2 rank2 =
     record { destination = replicate 6 0; source = replicate 6 0; opcode = 0; bands = 2; pe1 = pe1; rank1 = rank1; pe2 = pe2; rank2 = rank2 }
 
 -- the lower rank of two, be it band 1's or band 2's; a PE of 0 is not chosen though its rank is lower. Of equal ranks, which no accepted request has, band 1
-pub chosen-bands :
+pub chosen_bands :
     (chosen_of (with 4 1 9 2) ≡ some 1)
     × (chosen_of (with 4 2 9 1) ≡ some 2)
     × (chosen_of (with 4 2 0 1) ≡ some 1)
@@ -36,15 +36,15 @@ pub chosen-bands :
     × (chosen_of (with 0 1 0 2) ≡ none)
     × (chosen_of (with 4 1 9 1) ≡ some 1)
 unfolding chosen_of
-chosen-bands = (refl, refl, refl, refl, refl, refl)
+chosen_bands = (refl, refl, refl, refl, refl, refl)
 
-pub rates-of-bands :
+pub rates_of_bands :
     (rate_of_band (with 4 1 9 2) (some 1) ≡ some 10)
     × (rate_of_band (with 4 1 9 2) (some 2) ≡ some 8)
     × (rate_of_band (with 4 1 0 2) (some 2) ≡ none)
     × (rate_of_band (with 4 1 9 2) none ≡ none)
 unfolding rate_of
-rates-of-bands = (refl, refl, refl, refl)
+rates_of_bands = (refl, refl, refl, refl)
 
 -- what the answers stand for
 pub answers_mean : (mbit_of (rate.Mbit 4) ≡ some 4) × (mbit_of rate.None ≡ none) × (band_of (chosen.Band 2) ≡ some 2) × (band_of chosen.None ≡ none)

@@ -23,7 +23,7 @@ unfolding band_one_right
 number_18 = (refl, refl, refl, refl)
 
 -- of an absent band 2, of a present one, and of one that a third follows
-pub number-19 :
+pub number_19 :
     (band_two_right 1 8 ≡ true)
     × (band_two_right 2 0 ≡ true)
     × (band_two_right 2 1 ≡ false)
@@ -33,10 +33,10 @@ pub number-19 :
     × (band_two_right 2 16 ≡ false)
     × (band_two_right 3 8 ≡ false)
 unfolding band_two_right
-number-19 = (refl, refl, refl, refl, refl, refl, refl, refl)
+number_19 = (refl, refl, refl, refl, refl, refl, refl, refl)
 
 -- rank 0 in band 1, rank 0 in band 2, and equal ranks: of an absent band 2, of a present one, and of one that a third follows
-pub number-20 :
+pub number_20 :
     (ranks_right 1 0 0 ≡ false)
     × (ranks_right 1 1 0 ≡ true)
     × (ranks_right 1 1 1 ≡ true)
@@ -49,14 +49,14 @@ pub number-20 :
     × (ranks_right 3 1 0 ≡ false)
     × (ranks_right 3 1 1 ≡ false)
 unfolding ranks_right
-number-20 = (refl, refl, refl, refl, refl, refl, refl, refl, refl, refl, refl)
+number_20 = (refl, refl, refl, refl, refl, refl, refl, refl, refl, refl, refl)
 
 -- so many octets, of which each address begins with an odd one
 abbrev octets : ℕ → List ℕ
 octets n = replicate n 0x01
 
 -- no address, one, two with either of them wrong, and octets that begin no address
-pub number-21 :
+pub number_21 :
     (group_addresses [] ≡ true)
     × (group_addresses (octets 6) ≡ true)
     × (group_addresses (set (octets 6) 0 0xfe) ≡ false)
@@ -66,7 +66,7 @@ pub number-21 :
     × (group_addresses (set (octets 12) 5 0xfe) ≡ true)
     × (group_addresses (set (octets 8) 6 0xfe) ≡ true)
 unfolding group_addresses all_below
-number-21 = (refl, refl, refl, refl, refl, refl, refl, refl)
+number_21 = (refl, refl, refl, refl, refl, refl, refl, refl)
 
 -- a request with so many bands, and PE and rank of band 2
 abbrev with : ℕ → ℕ → ℕ → Request
@@ -74,7 +74,7 @@ with bands pe2 rank2 =
     record { destination = replicate 6 0; source = replicate 6 0; opcode = 0; bands = bands; pe1 = 4; rank1 = 1; pe2 = pe2; rank2 = rank2 }
 
 -- whole addresses; at most two bands; an absent band 2 without PE and rank; SSLength 254 and 260 of one band, 250 and 256 of two
-pub number-23 :
+pub number_23 :
     (layout_holds (with 1 0 0) [] ≡ true)
     × (layout_holds (with 1 0 0) (octets 1) ≡ false)
     × (layout_holds (with 1 0 0) (octets 5) ≡ false)
@@ -89,4 +89,4 @@ pub number-23 :
     × (layout_holds (with 2 9 2) (octets 240) ≡ true)
     × (layout_holds (with 2 9 2) (octets 246) ≡ false)
 unfolding ss_length_for absent_band_empty layout_holds
-number-23 = (refl, refl, refl, refl, refl, refl, refl, refl, refl, refl, refl, refl, refl)
+number_23 = (refl, refl, refl, refl, refl, refl, refl, refl, refl, refl, refl, refl, refl)

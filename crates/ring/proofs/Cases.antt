@@ -72,9 +72,9 @@ pub numbers : (is_number 0 ≡ true) × (is_number 4095 ≡ true) × (is_number 
 numbers = (refl, refl, refl)
 
 -- past 4,095 comes 0; a whole round leads back
-pub goes-round :
+pub goes_round :
     (next 0 ≡ 1) × (next 4095 ≡ 0) × (forward 10 64 ≡ 74) × (forward 4095 1 ≡ 0) × (forward 4090 10 ≡ 4) × (forward 7 4096 ≡ 7) × (forward 4096 1 ≡ 1)
-goes-round = (refl, refl, refl, refl, refl, refl, refl)
+goes_round = (refl, refl, refl, refl, refl, refl, refl)
 
 pub steps_on : (steps 7 7 ≡ 0) × (steps 7 8 ≡ 1) × (steps 8 7 ≡ 4095) × (steps 4095 0 ≡ 1) × (steps 0 4095 ≡ 4095) × (steps 4097 8193 ≡ 0)
 steps_on = (refl, refl, refl, refl, refl, refl)
@@ -83,6 +83,6 @@ pub rises_round : (rising 4094 4 ≡ 4094 ∷ 4095 ∷ 0 ∷ 1 ∷ []) × (risin
 rises_round = (refl, refl)
 
 -- the two tests on each side
-pub tests-tell :
+pub tests_tell :
     (is_far (Ahead 1) ≡ false) × (is_far (Behind 0) ≡ false) × (is_far Far ≡ true) × (is_ahead (Ahead 1) ≡ true) × (is_ahead (Behind 0) ≡ false) × (is_ahead Far ≡ false)
-tests-tell = (refl, refl, refl, refl, refl, refl)
+tests_tell = (refl, refl, refl, refl, refl, refl)

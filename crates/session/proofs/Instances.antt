@@ -10,10 +10,10 @@ abbrev pub first_event : List ℕ
 first_event =
     1 ∷ 2 ∷ 0 ∷ 0 ∷ 0 ∷ 0 ∷ 1 ∷ 2 ∷ 0 ∷ 0 ∷ 0 ∷ 0x0e ∷ 1 ∷ 5 ∷ 0 ∷ 0 ∷ 0 ∷ 0 ∷ 0 ∷ 0 ∷ 0 ∷ 100 ∷ 0 ∷ 10 ∷ 0 ∷ 0 ∷ 0x27 ∷ 0x1a ∷ []
 
-pub first-event-said :
+pub first_event_said :
     said first_event ≡ record { kind = 1; values = 0x020000000001 ∷ 0x020000000e01 ∷ 5 ∷ 100 ∷ 10 ∷ 10010 ∷ []; rest = [] }
 unfolding said form_of number_at
-first-event-said = refl
+first_event_said = refl
 
 -- no octets, and a period end with an octet behind it
 pub nothing_said : said [] ≡ record { kind = 0; values = []; rest = [] }

@@ -30,12 +30,12 @@ pub lies_within :
 unfolding within
 lies_within = (refl, refl, refl, refl, refl)
 
-pub six-at :
+pub six_at_law :
     (six_at eight 0 ≡ 1 ∷ 2 ∷ 3 ∷ 4 ∷ 5 ∷ 6 ∷ [])
     × (six_at eight 2 ≡ 3 ∷ 4 ∷ 5 ∷ 6 ∷ 7 ∷ 8 ∷ [])
     × (six_at eight 3 ≡ replicate 6 0)
 unfolding within six_at
-six-at = (refl, refl, refl)
+six_at_law = (refl, refl, refl)
 
 pub parts_at : (part_at eight 2 3 ≡ 3 ∷ 4 ∷ 5 ∷ []) × (part_at three 0 3 ≡ three) × (part_at three 1 3 ≡ []) × (part_at three 3 0 ≡ [])
 unfolding within part_at
@@ -65,30 +65,30 @@ lays_none = record { output = refl; place = refl }
 abbrev tests : Bool → Bool → List Refusal
 tests p q = (p else 4) ∷ (q else 5) ∷ []
 
-pub first-given :
+pub first_given :
     (first [] ≡ 0) × (first (tests true true) ≡ 0) × (first (tests true false) ≡ 5) × (first (tests false true) ≡ 4) × (first (tests false false) ≡ 4)
-first-given = (refl, refl, refl, refl, refl)
+first_given = (refl, refl, refl, refl, refl)
 
-pub answers-given :
+pub answers_given :
     (answered (λ n. 10 + n) (tests true true) 1 ≡ 1)
     × (answered (λ n. 10 + n) (tests true false) 1 ≡ 15)
     × (answered (λ n. 10 + n) (tests false true) 1 ≡ 14)
     × (answered (λ n. 10 + n) (tests false false) 1 ≡ 14)
-answers-given = (refl, refl, refl, refl)
+answers_given = (refl, refl, refl, refl)
 
 -- what the answers say: number 0 and the values, or the number alone
-pub fields-say :
+pub fields_say :
     (field_says 4 (value_if true 9) ≡ record { number = 0; values = 9 ∷ [] })
     × (field_says 4 (value_if false 9) ≡ record { number = 4; values = [] })
     × (check_says 4 (right_if true) ≡ record { number = 0; values = [] })
     × (check_says 4 (right_if false) ≡ record { number = 4; values = [] })
     × (ruled (true else 4) (9 ∷ []) ≡ record { number = 0; values = 9 ∷ [] })
     × (ruled (false else 4) (9 ∷ []) ≡ record { number = 4; values = [] })
-fields-say = (refl, refl, refl, refl, refl, refl)
+fields_say = (refl, refl, refl, refl, refl, refl)
 
-pub answers-made :
+pub answers_made :
     (value_if true 9 ≡ field.Value 9) × (value_if false 9 ≡ field.Wrong) × (right_if true ≡ checked.Right) × (right_if false ≡ checked.Wrong)
-answers-made = (refl, refl, refl, refl)
+answers_made = (refl, refl, refl, refl)
 
 -- document 01's header, of which Next Ethertype is octets 22 and 23, and an octet behind it
 abbrev header : List ℕ
