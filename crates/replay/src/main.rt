@@ -26,7 +26,7 @@ enum Turn {
 enum End {
     // All that there is to say is said.
     Said,
-    // Nobody reads the answers any more.
+    // Nobody reads what is written any more.
     Unread,
 }
 
@@ -139,11 +139,10 @@ fn ended(rt: &(impl Print + Eprint), index: u64, why: &[u8]) -> Heard {
     if let Err(end) = sent(rt, &mut line, end) {
         return Heard::Over(end);
     }
-    text::say(
+    Heard::Over(told(
         rt,
         "replay: the session was not answered to its end; the last line says why\n",
-    );
-    Heard::Over(End::Said)
+    ))
 }
 
 // Sends a line, or says that it could not, and how the run ends by that. Where nobody reads any more, nothing is said.
@@ -151,9 +150,14 @@ fn sent(rt: &(impl Print + Eprint), line: &mut text::Line, end: usize) -> Result
     match text::send(rt, line, end) {
         Ok(()) => Ok(()),
         Err(e) if e.kind() == ErrorKind::BrokenPipe => Err(End::Unread),
-        Err(_) => {
-            text::say(rt, "replay: the answers could not be written\n");
-            Err(End::Said)
-        }
+        Err(_) => Err(told(rt, "replay: the answers could not be written\n")),
+    }
+}
+
+// Says why the run ends. Where standard error takes nothing nobody is left to be told, and where it has no reader any more the run ends by that.
+fn told(rt: &impl Eprint, what: &str) -> End {
+    match text::say(rt, what) {
+        Err(e) if e.kind() == ErrorKind::BrokenPipe => End::Unread,
+        _ => End::Said,
     }
 }

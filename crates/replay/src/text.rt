@@ -172,7 +172,7 @@ pub(crate) fn send(output: &impl Print, line: &mut Line, at: usize) -> io::Resul
     output.write_all(wire::part(line, 0, end))
 }
 
-// Says something to whoever started the program. Nobody is left to be told where this fails.
-pub(crate) fn say(errors: &impl Eprint, what: &str) {
-    let _ = errors.eprint(what);
+// Says something to whoever started the program, or gives the error for which it is not heard.
+pub(crate) fn say(errors: &impl Eprint, what: &str) -> io::Result<()> {
+    errors.eprint(what)
 }
