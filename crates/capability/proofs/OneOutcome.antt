@@ -2,12 +2,17 @@
 -- An answer's contract fixes its outcome, and an outcome is one answer's, since no two cases of the timer have the same order.
 use mathlib.Core.Path.{◌≡◌, refl, sym, ap, ◌∙◌}
 use mathlib.Core.Bool.{cond}
+use lib.Dec.{eqb}
+use Rattle.std.specs.Prelude.{Result, Ok, Err}
 use Rattle.capability.specs.declared.Timer.{Timer}
 use Rattle.capability.specs.declared.Timer.TheVariants.{Kept, Started, Cancelled}
 use Rattle.capability.specs.declared.Answer.{Answer}
-use Rattle.capability.specs.Answers.{Order, Outcome, order_of, outcome_of}
+use Rattle.capability.specs.declared.refused.Refused.{Refused}
+use Rattle.capability.specs.declared.refused.Refused.TheVariants.{Opcode}
+use Rattle.capability.specs.declared.Station.{Station}
+use Rattle.capability.specs.Answers.{Order, Outcome, order_of, outcome_of, outcome_or}
 
--- where a contract is an equation, as for `fresh`, `frame`, `current` and `number`
+-- where a contract is an equation, as for `fresh`, `frame`, `current` and the numbers of a timer's order and of a refusal
 pub one_value : {A : Type 0} {a b x : A} → a ≡ x → b ≡ x → a ≡ b
 one_value p q = p ∙ sym q
 
@@ -22,7 +27,6 @@ back Cancelled = refl
 
 abbrev answer_of : Outcome → Answer
 answer_of o = record {
-  number = o.number;
   station = o.station;
   sends = o.sends;
   frame = o.frame;
@@ -31,8 +35,20 @@ answer_of o = record {
 }
 
 whole : (a : Answer) → answer_of (outcome_of a) ≡ a
-whole a = ap (λ (t : Timer). record { number = a.number; station = a.station; sends = a.sends; frame = a.frame; reported = a.reported; timer = t }) (back a.timer)
+whole a = ap (λ (t : Timer). record { station = a.station; sends = a.sends; frame = a.frame; reported = a.reported; timer = t }) (back a.timer)
 
--- where it fixes the outcome, as for the three events
+-- where it fixes the outcome, as for use and period end
 pub one_outcome : {a b : Answer} {o : Outcome} → outcome_of a ≡ o → outcome_of b ≡ o → a ≡ b
 one_outcome {a} {b} p q = sym (whole a) ∙ ap answer_of (one_value p q) ∙ whole b
+
+-- an outcome is an answer's exactly if its number is 0
+abbrev result_of : Outcome → Result Answer Refused
+result_of o = cond (eqb o.number 0) (Ok (answer_of o)) (Err Opcode)
+
+whole_or : (s : Station) (r : Result Answer Refused) → result_of (outcome_or s r) ≡ r
+whole_or s (Ok a) = ap Ok (whole a)
+whole_or s (Err Opcode) = refl
+
+-- and where an event may be refused, as a received frame
+pub one_result : (s : Station) {a b : Result Answer Refused} {o : Outcome} → outcome_or s a ≡ o → outcome_or s b ≡ o → a ≡ b
+one_result s {a} {b} p q = sym (whole_or s a) ∙ ap result_of (one_value p q) ∙ whole_or s b

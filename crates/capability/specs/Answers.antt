@@ -1,11 +1,13 @@
--- What an answer says in the paper's terms: its number, the station after it, what is sent, what is really new, and the order for the timer.
+-- What an answer or a refusal says in the paper's terms: its number, the station after it, what is sent, what is really new, and the order for the timer.
 -- Document 01, 'Capability sets'.
-use Rattle.std.specs.Prelude.{ℕ, Bool, true, false, cond}
+use Rattle.std.specs.Prelude.{ℕ, Bool, true, false, cond, Result, Ok, Err}
 use Rattle.capability.specs.declared.Timer.{Timer}
 use Rattle.capability.specs.declared.Timer.TheVariants.{Kept, Started, Cancelled}
 use Rattle.capability.specs.declared.Station.{Station}
 use Rattle.capability.specs.declared.Frame.{Frame}
 use Rattle.capability.specs.declared.Answer.{Answer}
+use Rattle.capability.specs.declared.refused.Refused.{Refused}
+use Rattle.capability.specs.Refused.{number_of}
 use Rattle.capability.specs.Sets.{carried}
 
 -- the order for the retransmit timer: whether one that runs is cancelled, and whether one is started then
@@ -39,9 +41,10 @@ pub record Outcome : Type 0 where
   pub reported : ℕ
   pub timer : Order
 
+-- an answer has number 0
 abbrev pub outcome_of : Answer → Outcome
 outcome_of a = record {
-  number = a.number;
+  number = 0;
   station = a.station;
   sends = a.sends;
   frame = a.frame;
@@ -60,3 +63,8 @@ accepted = outcome_with 0
 -- another number: nothing is changed, sent or reported, and the timer is kept
 abbrev pub refused : ℕ → Station → Outcome
 refused n s = outcome_with n s false 0 (order_of Kept)
+
+-- what is said of an event at this station, which may be refused
+abbrev pub outcome_or : Station → Result Answer Refused → Outcome
+outcome_or s (Ok a) = outcome_of a
+outcome_or s (Err e) = refused (number_of e) s

@@ -1,25 +1,27 @@
 -- Document 01, 'Capability sets', as one table of cases with their whole outcomes, of which `all_hold` (proofs/Cases) is the one statement.
 -- What a row expects is worked out from the paper. A row stands alone, on the station that it names, so that a rule that changes changes its own rows.
-use Rattle.std.specs.Prelude.{ℕ, ◌≡◌, Bool, true, false, List, [], ◌∷◌}
+use Rattle.std.specs.Prelude.{ℕ, ◌≡◌, Bool, true, false, List, [], ◌∷◌, Result, Ok, Err}
 use Rattle.capability.specs.declared.Timer.{Timer}
 use Rattle.capability.specs.declared.Timer.TheVariants.{Kept, Started, Cancelled}
 use Rattle.capability.specs.declared.Station.{Station}
 use Rattle.capability.specs.declared.Frame.{Frame}
 use Rattle.capability.specs.declared.Answer.{Answer}
-use Rattle.capability.specs.Answers.{Order, order_of, order_number, Outcome, outcome_of}
+use Rattle.capability.specs.declared.refused.Refused.{Refused}
+use Rattle.capability.specs.declared.refused.Refused.TheVariants.{Opcode}
+use Rattle.capability.specs.Answers.{Order, order_of, order_number, Outcome, outcome_or}
 use Rattle.capability.specs.Events.{fresh}
 use Rattle.capability.specs.Run.{Event, use_of, period_end, frame_with, outcome}
 
--- a case of the timer, its order and its number; an answer and what it says; a default set and the fresh station; or a station, an event, and the outcome
+-- a case of the timer, its order and its number; a station, an answer or a refusal there, and what it says; a default set and the fresh station; or a station, an event, and the outcome
 pub data Case : Type 0 where
   means : Timer → Order → ℕ → Case
-  reads : Answer → Outcome → Case
+  reads : Station → Result Answer Refused → Outcome → Case
   begins : ℕ → Station → Case
   gets : Station → Event → Outcome → Case
 
 abbrev pub Holds : Case → Type 0
 Holds (means t o n) = (order_of t ≡ o) × (order_number o ≡ n)
-Holds (reads a o) = outcome_of a ≡ o
+Holds (reads s r o) = outcome_or s r ≡ o
 Holds (begins d s) = fresh d ≡ s
 Holds (gets s e o) = outcome s e ≡ o
 
@@ -70,8 +72,8 @@ cases =
     means Kept kept 0
     ∷ means Started started 1
     ∷ means Cancelled cancelled 2
-    ∷ reads (record { number = 30; station = apart; sends = true; frame = mixed_frame; reported = 0x40; timer = Cancelled }) (says 30 apart true mixed_frame 0x40 cancelled)
-    ∷ reads (record { number = 0; station = mixed; sends = false; frame = carries 1 2 4; reported = 0; timer = Kept }) (says 0 mixed false (carries 1 2 4) 0 kept)
+    ∷ reads mixed (Ok (record { station = apart; sends = true; frame = mixed_frame; reported = 0x40; timer = Cancelled })) (says 0 apart true mixed_frame 0x40 cancelled)
+    ∷ reads apart (Ok (record { station = mixed; sends = false; frame = carries 1 2 4; reported = 0; timer = Kept })) (says 0 mixed false (carries 1 2 4) 0 kept)
     -- flags 0 and 7 are the default, as in 001, 6.5.2
     ∷ begins 0x81 (has 0x81 0x81 0 0 0 0)
     -- six periods of that station, each row on what the one before left: 2 and 5 are used, 5 again; 0, 3 and 7 are heard, then 4 with a request
@@ -117,4 +119,6 @@ cases =
     (says 0 (has 0x9696_9696 0x9966_9966 0x9999_6666 0xa55a_a55a 0xf0fa_f0fa 0xc0cc_c0cc) false (carries 0xa55a_a55a 0x99ff_ff66 0xf0fe_f0fe) 0x1010_1010 kept)
     ∷ gets mixed (frame_with 2 mixed_frame) (says 30 mixed false (carries 0xa55a_a55a 0x99ff_ff66 0xeeee_eeee) 0 kept)
     ∷ gets apart (frame_with 255 mixed_frame) (says 30 apart false (carries 0x08 0x06 0x30) 0 kept)
+    -- a refusal alone, at the station that it leaves
+    ∷ reads apart (Err Opcode) (says 30 apart false (carries 0x08 0x06 0x30) 0 kept)
     ∷ []

@@ -1,3 +1,5 @@
+pub mod Refused
+pub mod Opcodes
 pub mod Sets
 pub mod Answers
 pub mod Events

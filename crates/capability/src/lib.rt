@@ -1,10 +1,16 @@
 #![tactic(auto)]
 // The capability sets of one station: what it announces, what it hears from others, when it sends a frame and what its retransmit timer does.
 // Document 01, 'Capability sets'; 001, 6.5.3 to 6.5.5. Each of the 32 bits is a flag, and every word is a set, so no station is refused.
+mod opcode;
+mod refused;
+
 ghost use Rattle.std.specs.Prelude.{◌≡◌};
 ghost use Rattle.capability.specs.Sets.{current_tx, current_rx, carried};
-ghost use Rattle.capability.specs.Answers.{order_of, order_number, start_if, cancel_then_start_if, outcome_of, outcome_with};
+ghost use Rattle.capability.specs.Answers.{order_of, order_number, start_if, cancel_then_start_if, outcome_of, outcome_or, accepted};
 ghost use Rattle.capability.specs.Events.{fresh, unannounced, added_tx, rolled_tx, rolled_rx, really_new, taken_away, heard_rx, used, ended, received};
+
+use crate::opcode::Opcode;
+pub use refused::Refused;
 
 // NewTx, PreviousTx and OldestTx: the flags that the station used in this period, the one before, and the one before that.
 #[derive(Clone, Copy)]
@@ -47,11 +53,10 @@ pub enum Timer {
     Cancelled,
 }
 
-// The answer to an event. A frame is to be sent now if `sends`; `frame` has the sets as they now are, sent or not; `reported` are the flags that are
+// The answer to an event that is not refused. A frame is to be sent now if `sends`; `frame` has the sets as they now are, sent or not; `reported` are the flags that are
 // really new.
 #[derive(Clone, Copy)]
 pub struct Answer {
-    pub number: u8,
     pub station: Station,
     pub sends: bool,
     pub frame: Frame,
@@ -59,18 +64,21 @@ pub struct Answer {
     pub timer: Timer,
 }
 
-impl Timer {
-    // For a host that takes numbers: 0 kept, 1 started, 2 cancelled.
-    pub fn number(self) -> u8
-        ensures { result ≡ order_number (order_of self) }
-    {
-        match self {
+// For a host that takes numbers: 0 kept, 1 started, 2 cancelled.
+impl From<Timer> for u8 {
+    ghost from_gives = { λ timer number. number ≡ order_number (order_of timer) };
+
+    fn from(timer: Timer) -> u8 {
+        match timer {
             Timer::Kept => 0,
             Timer::Started => 1,
             Timer::Cancelled => 2,
         }
     }
+}
 
+impl Timer {
+    // The paper gives two orders, and each has its name: 'started if', and 'cancelled, and started if'.
     fn start_if(starts: bool) -> Timer
         ensures { order_of result ≡ start_if starts }
     {
@@ -89,7 +97,7 @@ impl Timer {
 }
 
 impl Tx {
-    // CurrentTx.
+    // CurrentTx. It is written here and at `Rx`, since a struct of `new` and `previous` inside both would put one more name into each path to a set.
     pub fn current(self) -> u32
         ensures { result ≡ current_tx self }
     {
@@ -164,11 +172,6 @@ impl Frame {
 }
 
 impl Station {
-    pub const ACCEPTED: u8 = 0;
-
-    // An opcode above 1.
-    pub const REFUSED: u8 = 30;
-
     pub fn fresh(default: u32) -> Station
         ensures { result ≡ fresh default }
     {
@@ -201,7 +204,7 @@ impl Station {
     {
         let announced = self.tx.unannounced(flags) != 0;
         self.tx = self.tx.added(flags);
-        self.answer(Station::ACCEPTED, announced, 0, Timer::start_if(announced))
+        self.answer(announced, 0, Timer::start_if(announced))
     }
 
     // The host's period timer runs out (001, 6.5.5.3).
@@ -212,27 +215,25 @@ impl Station {
         self.rx = self.rx.rolled();
         let differs = self.tx.current() != self.tx.oldest;
         let timer = Timer::cancel_then_start_if(differs);
-        self.answer(Station::ACCEPTED, true, 0, timer)
+        self.answer(true, 0, timer)
     }
 
-    // A capability frame comes in (001, 6.5.5.2).
-    pub fn receive(mut self, opcode: u8, frame: Frame) -> Answer
-        ensures { outcome_of result ≡ received self opcode frame }
+    // A capability frame comes in (001, 6.5.5.2). A refusal leaves the station, which is the caller's, as it is.
+    pub fn receive(mut self, opcode: u8, frame: Frame) -> Result<Answer, Refused>
+        ensures { outcome_or self result ≡ received self opcode frame }
     {
-        if 1 < opcode {
-            return self.answer(Station::REFUSED, false, 0, Timer::Kept);
-        }
+        let opcode = Opcode::try_from(opcode)?;
         let new = self.rx.really_new(frame);
         self.rx = self.rx.heard(frame);
-        self.answer(Station::ACCEPTED, false, new, Timer::start_if(opcode == 1))
+        let timer = Timer::start_if(opcode == Opcode::Request);
+        Ok(self.answer(false, new, timer))
     }
 
-    fn answer(self, number: u8, sends: bool, reported: u32, timer: Timer) -> Answer
-        ensures { outcome_of result ≡ outcome_with number self sends reported (order_of timer) }
+    fn answer(self, sends: bool, reported: u32, timer: Timer) -> Answer
+        ensures { outcome_of result ≡ accepted self sends reported (order_of timer) }
     {
         let frame = self.frame();
         Answer {
-            number,
             station: self,
             sends,
             frame,

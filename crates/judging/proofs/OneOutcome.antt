@@ -5,9 +5,11 @@ use mathlib.Core.Path.{◌≡◌, sym, ◌∙◌}
 use mathlib.Core.List.{List}
 use Rattle.larq.specs.Table.{Lent}
 use Rattle.judging.specs.Judge.{judged_says, judged_for}
-use Rattle.judging.specs.declared.Judged.{Judged}
+use Rattle.std.specs.Prelude.{Result}
+use Rattle.record.specs.declared.Record.{Record}
+use Rattle.larq.specs.declared.refused.Refused.{Refused}
 use Rattle.judging.proofs.Saying.{one_judged}
 
-pub one_judge : (lent : Lent) (words marks : List ℕ) (s time : ℕ) (a b : Judged) → judged_says a ≡ judged_for lent words marks s time
+pub one_judge : (lent : Lent) (words marks : List ℕ) (s time : ℕ) (a b : Result Record Refused) → judged_says a ≡ judged_for lent words marks s time
     → judged_says b ≡ judged_for lent words marks s time → a ≡ b
 one_judge lent words marks s time a b u v = one_judged a b (u ∙ sym v)

@@ -15,8 +15,10 @@ use Rattle.slots.specs.Slots.{current_in, oldest_in, latest_in}
 use Rattle.record.specs.Place.{record_of}
 use Rattle.record.specs.declared.Record.{Record}
 use Rattle.judging.specs.Judge.{common, judged_says, judged_for}
-use Rattle.judging.specs.declared.Judged.{Judged}
-use Rattle.judging.specs.declared.Judged.TheVariants.{Refused, Open}
+use Rattle.std.specs.Prelude.{Result, Ok, Err}
+use Rattle.larq.specs.Refused.{number_of}
+use Rattle.larq.specs.declared.refused.Refused.{Refused}
+use Rattle.larq.proofs.OneRefusal.{one_refused}
 
 -- what is said by a list of tests where good input has values: a number is that by which the list refuses, whatever it answers to good input
 pub said_refused : {A : Type 0} (refuse : ℕ → A) (good : A) (l : List Refusal) (v : ℕ) (vs : List ℕ) (n : ℕ) → refused n ≡ answered refused l (accepted (v ∷ vs))
@@ -51,7 +53,7 @@ pub record OpenAt (l : Lent) (words marks : List ℕ) (s time : ℕ) (r : Record
   pub oldest : r.oldest.0 ≡ oldest_in words
   pub latest : r.latest ≡ latest_in words
 
-pub open_at : (lent : Lent) (words marks : List ℕ) (s time : ℕ) (r : Record) → judged_says (Open r) ≡ judged_for lent words marks s time
+pub open_at : (lent : Lent) (words marks : List ℕ) (s time : ℕ) (r : Record) → judged_says (Ok r) ≡ judged_for lent words marks s time
     → OpenAt lent words marks s time r
 open_at lent words marks s time r e =
     let x = said_accepted (common lent s time (record_of words [] marks)) r.current.0 _ _ e in
@@ -68,16 +70,16 @@ open_at lent words marks s time r e =
     }
 
 -- answers that say the same are the same, so what an answer says settles it
-one_record : (r q : Record) → judged_says (Open r) ≡ judged_says (Open q) → r ≡ q
+one_record : (r q : Record) → judged_says (Ok r) ≡ judged_says (Ok q) → r ≡ q
 one_record r q e =
-    let vs = values_are (judged_says (Open r)) (judged_says (Open q)) e in
+    let vs = values_are (judged_says (Ok r)) (judged_says (Ok q)) e in
     let c : r.current.0 ≡ q.current.0 = cc in
     let m : r.oldest.0 ≡ q.oldest.0 = cc in
     let t : r.latest ≡ q.latest = cc in
     rw (c, m, t) refl
 
-pub one_judged : (a b : Judged) → judged_says a ≡ judged_says b → a ≡ b
-one_judged (Refused n) (Refused m) e = ap Refused (number_is (refused n) (refused m) e)
-one_judged (Refused n) (Open r) e = absurd (some_none _ _ (sym (values_are (refused n) (judged_says (Open r)) e)))
-one_judged (Open r) (Refused n) e = absurd (some_none _ _ (values_are (judged_says (Open r)) (refused n) e))
-one_judged (Open r) (Open q) e = ap Open (one_record r q e)
+pub one_judged : (a b : Result Record Refused) → judged_says a ≡ judged_says b → a ≡ b
+one_judged (Err d) (Err f) e = ap Err (one_refused d f (number_is (refused (number_of d)) (refused (number_of f)) e))
+one_judged (Err d) (Ok r) e = absurd (some_none _ _ (sym (values_are (refused (number_of d)) (judged_says (Ok r)) e)))
+one_judged (Ok r) (Err d) e = absurd (some_none _ _ (values_are (judged_says (Ok r)) (refused (number_of d)) e))
+one_judged (Ok r) (Ok q) e = ap Ok (one_record r q e)

@@ -69,19 +69,17 @@ module _ (w k : List ℕ) where
   unfolding sound record_with
   sound_is = and_assoc (leb (current_in w) 4095) (leb (oldest_in w) 4095) _
 
-  pub sound_ring : sizes ≡ true → in_ring w ≡ false → false ≡ sound_at w k
-  sound_ring e f = rw (e, sound_is, f)
+  pub sound_ring : in_ring w ≡ false → false ≡ sound channel.window (record_of w [] k)
+  sound_ring f = sym (sound_is ∙ rw f)
 
-  pub sound_shape : sizes ≡ true → in_ring w ≡ true → in_shape (current_in w) (oldest_in w) w k ≡ sound_at w k
-  sound_shape e f = rw (e, sound_is, f)
+  pub sound_shape : in_ring w ≡ true → in_shape (current_in w) (oldest_in w) w k ≡ sound channel.window (record_of w [] k)
+  sound_shape f = sym (sound_is ∙ rw f)
 
   pub sound_by_sizes : length w ≡ place_words → length k ≡ slots → sound_at w k ≡ sound channel.window (record_of w [] k)
   sound_by_sizes e f = rw (eq-eqb (length w) place_words e, eq-eqb (length k) slots f)
 
-  pub sound_ring_of : sound_at w k ≡ true → (current_in w < size) × (oldest_in w < size)
-  sound_ring_of e =
-      ring_of (and_left (in_ring w) (in_shape (current_in w) (oldest_in w) w k)
-      (sym sound_is ∙ and_right sizes (sound channel.window (record_of w [] k)) e))
+  pub sound_ring_of : sound channel.window (record_of w [] k) ≡ true → (current_in w < size) × (oldest_in w < size)
+  sound_ring_of e = ring_of (and_left (in_ring w) (in_shape (current_in w) (oldest_in w) w k) (sym sound_is ∙ e))
 
 -- The handles have no part in whether a record is broken.
 times_cells_from : (w h k : List ℕ) (m n : ℕ) → times (cells_from (cell_at w h k) m n) ≡ times (cells_from (cell_at w [] k) m n)

@@ -1,17 +1,17 @@
 -- What is decided of an event before anything is written. Document 01, 'Numbers the box may answer with'.
-use Rattle.std.specs.Prelude.{ℕ, ◌<◌, ◌≡◌, Bool, cond, ◌&&◌, true, List, [], ◌∷◌, length, leb, ltb, eqb}
-use Rattle.wire.specs.Answers.{Said, accepted, refused}
+use Rattle.std.specs.Prelude.{ℕ, ◌<◌, ◌≡◌, Bool, cond, ◌&&◌, true, List, [], ◌∷◌, length, leb, ltb, eqb, Result}
+use Rattle.wire.specs.Answers.{Said, accepted, refused, result_says}
 use Rattle.wire.specs.Refusals.{Refusal, answered}
 use Rattle.larq.specs.Channel.{window, reach, Cell, Channel, span_of, head_missing, times, orderly}
 use Rattle.larq.specs.Events.{Act, frame}
 use Rattle.ring.specs.Ring.{is_number, steps, seen, Side, Ahead, Behind, Far}
 use Rattle.larq.specs.Table.{Lent, Event, refusals}
+use Rattle.larq.specs.Refused.{number_of}
+use Rattle.larq.specs.declared.refused.Refused.{Refused}
 use Rattle.slots.specs.Slots.{slot_of, current_in, oldest_in, latest_in, is_missing}
 use Rattle.record.specs.Place.{cells_from, cell_at, record_of}
 use Rattle.record.specs.Moving.{span_in}
 use Rattle.record.specs.declared.Record.{Record}
-use Rattle.judging.specs.declared.Judged.{Judged}
-use Rattle.judging.specs.declared.Judged.TheVariants.{Refused, Open}
 use Rattle.judging.specs.declared.Spot.{Spot}
 use Rattle.judging.specs.declared.Spot.TheVariants as spot
 
@@ -39,10 +39,13 @@ event_on lent time act = record { key = record { destination = 0; source = 0; pr
 abbrev pub common : Lent → ℕ → ℕ → Channel ℕ → List Refusal
 common lent s time c = refusals window true (c ∷ []) (event_on lent time (frame s 0))
 
+-- what a record by value says: C, M and the latest time
+abbrev pub head_values : Record → List ℕ
+head_values r = r.current.0 ∷ (r.oldest.0 ∷ (r.latest ∷ []))
+
 -- what each case says: document 01's number, 0 where the event goes on, and then C, M and the latest time
-abbrev pub judged_says : Judged → Said
-judged_says (Refused n) = refused n
-judged_says (Open r) = accepted (r.current.0 ∷ (r.oldest.0 ∷ (r.latest ∷ [])))
+abbrev pub judged_says : Result Record Refused → Said
+judged_says = result_says head_values number_of
 
 -- what is to be said of an event with number s at a place: the first number that refuses it, or the record that the place holds
 abbrev pub judged_for : Lent → List ℕ → List ℕ → ℕ → ℕ → Said

@@ -1,15 +1,16 @@
 #![tactic(auto)]
 // What is decided of an event before anything is written: the number that refuses it, or where its number lies.
 // Document 01, 'Numbers the box may answer with' and 'The channel table'.
-ghost use Rattle.std.specs.Prelude.{◌≡◌, ◌<◌, length};
-ghost use Rattle.larq.specs.Channel.{orderly};
+ghost use Rattle.std.specs.Prelude.{◌≡◌, ◌<◌, []};
+ghost use Rattle.larq.specs.Channel.{orderly, sound, window};
 ghost use Rattle.ring.specs.Ring.{size};
 ghost use Rattle.slots.specs.Slots.{current_in, oldest_in, latest_in};
-ghost use Rattle.record.specs.Place.{sound_at, place_lent};
+ghost use Rattle.record.specs.Lengths.{lent_by};
+ghost use Rattle.record.specs.Place.{record_of, sound_at};
 ghost use Rattle.judging.specs.Judge.{in_ring, times_of, in_shape, judged_says, judged_for, spot_for};
 
-use larq::WINDOW;
-use record::{Record, lent_enough};
+use larq::{Refused, WINDOW};
+use record::{Lengths, Record};
 use ring::Seq;
 use slots::{SLOTS, WORDS, current, is_missing, latest, oldest, time_of};
 
@@ -35,13 +36,13 @@ fn in_ring(words: &[u64]) -> bool
 
 // Whether the times of the missing among n numbers from `from` on do not fall, and none is later than the latest.
 // As they do not fall, the last of them is the latest of them.
+// Words and marks stay two parameters, here and below: each clause would take a struct of the two apart again.
 fn in_order(words: &[u64], marks: &[u8], from: Seq, n: u16) -> bool
     ensures { result ≡ orderly 0 (latest_in words.now) (times_of words.now marks.now from.0 n) }
 {
     let mut before: u64 = 0;
-    let mut i = from;
-    let mut left = n;
-    while 0 < left {
+    for k in 0..n {
+        let i = from.forward(k);
         if is_missing(marks, i) {
             let t = time_of(words, i);
             if t < before {
@@ -49,13 +50,12 @@ fn in_order(words: &[u64], marks: &[u8], from: Seq, n: u16) -> bool
             }
             before = t;
         }
-        i = i.forward(1);
-        left -= 1;
     }
     before <= latest(words)
 }
 
 // Whether the window is not too wide, M is missing if anything is, and the times of missing numbers are in order.
+#[tactic(auto, using(crate::proofs::Sounds::shape_none, crate::proofs::Sounds::shape_wide, crate::proofs::Sounds::shape_head, crate::proofs::Sounds::shape_times))]
 fn in_shape(r: Record, words: &[u64], marks: &[u8]) -> bool
     ensures { result ≡ in_shape r.current.0 r.oldest.0 words.now marks.now }
 {
@@ -72,54 +72,45 @@ fn in_shape(r: Record, words: &[u64], marks: &[u8]) -> bool
     in_order(words, marks, r.oldest, n)
 }
 
+// Whether the record that these words and marks hold is not broken, however long they are.
+#[tactic(auto, using(crate::proofs::Sounds::sound_ring, crate::proofs::Sounds::sound_shape))]
+fn is_whole(words: &[u64], marks: &[u8]) -> bool
+    ensures { result ≡ sound window (record_of words.now [] marks.now) }
+{
+    in_ring(words) && in_shape(read(words), words, marks)
+}
+
 // Whether a place's record is not broken. A place whose parts have other lengths has no such record.
 pub fn is_sound(words: &[u64], marks: &[u8]) -> bool
     ensures { result ≡ sound_at words.now marks.now }
 {
-    if !((words.len() == WORDS) & (marks.len() == SLOTS)) {
-        return false;
-    }
-    if !in_ring(words) {
-        return false;
-    }
-    in_shape(read(words), words, marks)
+    ((words.len() == WORDS) & (marks.len() == SLOTS)) && is_whole(words, marks)
 }
 
-// What is decided of an event: the number that refuses it, or the record that it acts on.
-#[derive(Clone, Copy)]
-pub enum Judged {
-    Refused(u8),
-    Open(Record),
-}
-
-// The numbers 1, 2, 6 and 7, in this order. A tick and a close have no number of their own, and give 0.
+// The record that an event acts on, or what refuses it: the numbers 1, 2, 6 and 7, in this order. A tick and a close have no number of their own, and
+// give 0.
 pub fn judge(
     words: &[u64],
     marks: &[u8],
-    handles: usize,
-    up: usize,
-    returned: usize,
-    nack: usize,
+    lent: Lengths,
     number: u16,
     time: u64,
-) -> Judged
-    ensures { judged_says result
-        ≡ judged_for (place_lent (length words.now) handles (length marks.now) up returned nack)
-        words.now marks.now number time }
+) -> Result<Record, Refused>
+    ensures { judged_says result ≡ judged_for (lent_by lent) words.now marks.now number time }
 {
-    if !lent_enough(words.len(), handles, marks.len(), up, returned, nack) {
-        return Judged::Refused(1);
+    if !lent.lent_enough() {
+        return Err(Refused::Lent);
     }
     if Seq::SIZE <= number {
-        return Judged::Refused(2);
+        return Err(Refused::Number);
     }
-    if !is_sound(words, marks) {
-        return Judged::Refused(6);
+    if !is_whole(words, marks) {
+        return Err(Refused::Broken);
     }
     if time < latest(words) {
-        return Judged::Refused(7);
+        return Err(Refused::Earlier);
     }
-    Judged::Open(read(words))
+    Ok(read(words))
 }
 
 // Where the number of a frame lies: it is M, while nothing is missing; ahead of C by so many; in the window and missing; waiting already or

@@ -13,3 +13,4 @@ pub mod Calls
 pub mod Rows
 pub mod Edges
 pub mod NumberCases
+pub mod Refused

@@ -60,7 +60,7 @@ abbrev having : ℕ → ℕ → ℕ → List (Cell ℕ) → Channel ℕ
 having c m t cells = record { current = c; oldest = m; latest = t; cells = cells }
 
 -- each number by itself, for each part of its condition
-abbrev each : List Case
+abbrev pub each : List Case
 each =
     refuses mine (event (lends 31 32 32 true) 0 tick) 1
     ∷ (refuses mine (event (lends 32 31 32 true) 0 tick) 1

@@ -1,5 +1,5 @@
 // The channel events on the table that the host lends, the empty table, and a look at a channel's record (document 01, 'The channel table'
-// and 'The four channel events'). Slices and addresses are passed on as they come.
+// and 'The four channel events'). Slices and addresses are passed on as they come, each apart, since the header declares them so.
 ghost use Rattle.larq.specs.Events.{frame, reminder, tick, close};
 ghost use Rattle.place.specs.Call.{buffers};
 ghost use Rattle.table_calls.specs.Emptied.{Emptied};
@@ -7,9 +7,11 @@ ghost use Rattle.table.specs.Key.{key_of};
 ghost use Rattle.table_calls.specs.Look.{shown_of, lent_for, Looked};
 ghost use Rattle.table.specs.Table.{slices, table_of};
 ghost use Rattle.table_calls.specs.Event.{Call};
+ghost use Rattle.pik_channel.specs.Answers.{told_of, seen_of};
 
-use place::Answer;
-use table_calls::View;
+use crate::answers::Answer;
+use crate::views::View;
+use table::Key;
 
 #[unsafe(no_mangle)]
 pub extern "C" fn pik_empty(
@@ -22,7 +24,10 @@ pub extern "C" fn pik_empty(
         (slices keys.old words.old handles.old marks.old)
         (slices keys.new words.new handles.new marks.new) result }
 {
-    table_calls::empty(keys, words, handles, marks)
+    match table_calls::empty(keys, words, handles, marks) {
+        Ok(()) => 0,
+        Err(refused) => refused.into(),
+    }
 }
 
 #[unsafe(no_mangle)]
@@ -45,7 +50,7 @@ pub extern "C" fn pik_data(
         (slices keys.old words.old handles.old marks.old)
         (slices keys.new words.new handles.new marks.new)
         (buffers up.old returned.old nack.old)
-        (buffers up.new returned.new nack.new) result }
+        (buffers up.new returned.new nack.new) (told_of result) }
 {
     table_frame::data(
         keys,
@@ -55,13 +60,16 @@ pub extern "C" fn pik_data(
         up,
         returned,
         nack,
-        destination,
-        source,
-        priority,
+        Key {
+            destination,
+            source,
+            priority,
+        },
         time,
         number,
         handle,
     )
+    .into()
 }
 
 #[unsafe(no_mangle)]
@@ -83,7 +91,7 @@ pub extern "C" fn pik_reminder(
         (slices keys.now words.old handles.old marks.old)
         (slices keys.now words.new handles.new marks.new)
         (buffers up.old returned.old nack.old)
-        (buffers up.new returned.new nack.new) result }
+        (buffers up.new returned.new nack.new) (told_of result) }
 {
     table_upkeep::reminder(
         keys,
@@ -93,12 +101,15 @@ pub extern "C" fn pik_reminder(
         up,
         returned,
         nack,
-        destination,
-        source,
-        priority,
+        Key {
+            destination,
+            source,
+            priority,
+        },
         time,
         number,
     )
+    .into()
 }
 
 #[unsafe(no_mangle)]
@@ -119,7 +130,7 @@ pub extern "C" fn pik_tick(
         (slices keys.now words.old handles.old marks.old)
         (slices keys.now words.new handles.new marks.new)
         (buffers up.old returned.old nack.old)
-        (buffers up.new returned.new nack.new) result }
+        (buffers up.new returned.new nack.new) (told_of result) }
 {
     table_upkeep::tick(
         keys,
@@ -129,11 +140,14 @@ pub extern "C" fn pik_tick(
         up,
         returned,
         nack,
-        destination,
-        source,
-        priority,
+        Key {
+            destination,
+            source,
+            priority,
+        },
         time,
     )
+    .into()
 }
 
 #[unsafe(no_mangle)]
@@ -154,7 +168,7 @@ pub extern "C" fn pik_close(
         (slices keys.old words.old handles.old marks.old)
         (slices keys.new words.new handles.new marks.new)
         (buffers up.old returned.old nack.old)
-        (buffers up.new returned.new nack.new) result }
+        (buffers up.new returned.new nack.new) (told_of result) }
 {
     table_upkeep::close(
         keys,
@@ -164,11 +178,14 @@ pub extern "C" fn pik_close(
         up,
         returned,
         nack,
-        destination,
-        source,
-        priority,
+        Key {
+            destination,
+            source,
+            priority,
+        },
         time,
     )
+    .into()
 }
 
 #[unsafe(no_mangle)]
@@ -187,17 +204,20 @@ pub extern "C" fn pik_look(
         (shown_of (lent_for (slices keys.now words.now handles.now marks.now) waits.old values.old)
         (key_of destination.now source.now priority)
         (table_of (slices keys.now words.now handles.now marks.now)))
-        waits.old waits.new values.old values.new result }
+        waits.old waits.new values.old values.new (seen_of result) }
 {
     table_calls::look(
         keys,
         words,
         handles,
         marks,
-        destination,
-        source,
-        priority,
+        Key {
+            destination,
+            source,
+            priority,
+        },
         waits,
         values,
     )
+    .into()
 }

@@ -6,9 +6,8 @@ use mathlib.Core.Path.{◌≡◌, refl, sym, ap, ◌∙◌}
 use mathlib.Core.List.{List}
 use lib.ListN.{get_or}
 use Rattle.rate.specs.declared.Request as inner
-use Rattle.rate_reader.specs.declared.Reading as inner-reading
-use Rattle.rate.specs.declared.Written as inner-written
-use Rattle.rate_reader.specs.Reading.{read_of}
+use Rattle.rate_reader.specs.Reading.{Read, read_of}
+use Rattle.rate.specs.Writing as answers
 use Rattle.rate.specs.Writing.{Wrote}
 use Rattle.rate.proofs.OneOutcome.{one_write}
 use Rattle.pik_rate.specs.declared.requests.Address.{Address}
@@ -42,10 +41,10 @@ request_for q =
       rank2 = q.rank2;
     }
 
-abbrev reading_for : inner-reading.Reading → Reading
+abbrev reading_for : Read → Reading
 reading_for r = record { number = r.number; addresses = r.addresses; request = request_for r.request; start = r.start; extent = r.extent }
 
-abbrev written_for : inner-written.Written → Written
+abbrev written_for : answers.Written → Written
 written_for w = record { number = w.number; count = w.count }
 
 reading_back : (r : Reading) → reading_for (reading_of r) ≡ r

@@ -1,8 +1,8 @@
 -- What the structs of a rate request stand for. Document 01, 'The rate request on the wire'.
 use Rattle.std.specs.Prelude.{ℕ, List, [], ◌∷◌}
 use Rattle.rate.specs.declared.Request as inner
-use Rattle.rate_reader.specs.declared.Reading as inner-reading
-use Rattle.rate.specs.declared.Written as inner-written
+use Rattle.rate_reader.specs.Reading.{Read}
+use Rattle.rate.specs.Writing as answers
 use Rattle.pik_rate.specs.declared.requests.Address.{Address}
 use Rattle.pik_rate.specs.declared.requests.Request.{Request}
 use Rattle.pik_rate.specs.declared.requests.Reading.{Reading}
@@ -25,7 +25,7 @@ request_of q =
       rank2 = q.rank2;
     }
 
-abbrev pub reading_of : Reading → inner-reading.Reading
+abbrev pub reading_of : Reading → Read
 reading_of r =
     record {
       number = r.number;
@@ -35,5 +35,5 @@ reading_of r =
       extent = r.extent;
     }
 
-abbrev pub written_of : Written → inner-written.Written
+abbrev pub written_of : Written → answers.Written
 written_of w = record { number = w.number; count = w.count }

@@ -1,14 +1,16 @@
-// Rate requests for a host (document 01, 'Rate requests, in this order' and 'The rate request on the wire').
-ghost use Rattle.std.specs.Prelude.{◌≡◌};
-ghost use Rattle.std.proofs.Math.Option.{get_or};
+// Rate requests for a host (document 01, 'Rate requests, in this order' and 'The rate request on the wire'). The structs are those of the C interface, with
+// numbers and 0 for none.
+ghost use Rattle.std.specs.Prelude.{◌≡◌, unwrap_or};
 ghost use Rattle.rate.specs.Rates.{rate_of, chosen_of};
-ghost use Rattle.rate_reader.specs.Reading.{read_of};
-ghost use Rattle.rate.specs.Writing.{Wrote};
+ghost use Rattle.rate_reader.specs.Reading.{read, read_of};
+ghost use Rattle.rate.specs.Writing.{written, Wrote};
 ghost use Rattle.pik_rate.specs.Requests.{octets_of, request_of, reading_of, written_of};
 
-// The six octets of an address. In C it is an array of six octets.
+use rate::Refused;
+
+// The six octets of an address. In C it is an array of six octets; the C interface passes it by value, so that it is a struct of six fields here.
 #[repr(C)]
-#[derive(Clone, Copy)]
+#[derive(Clone, Copy, Default)]
 pub struct Address {
     pub first: u8,
     pub second: u8,
@@ -20,7 +22,7 @@ pub struct Address {
 
 // The fixed fields of a request.
 #[repr(C)]
-#[derive(Clone, Copy)]
+#[derive(Clone, Copy, Default)]
 pub struct Request {
     pub destination: Address,
     pub source: Address,
@@ -32,9 +34,9 @@ pub struct Request {
     pub rank2: u8,
 }
 
-// What the reader answers: the addresses are the caller's own octets, `extent` of them from `start` on.
+// What the reader answers: the addresses are the caller's own octets, `extent` of them from `start` on. Refused, all is 0 but the number.
 #[repr(C)]
-#[derive(Clone, Copy)]
+#[derive(Clone, Copy, Default)]
 pub struct Reading {
     pub number: u8,
     pub addresses: u8,
@@ -51,56 +53,92 @@ pub struct Written {
     pub count: usize,
 }
 
-fn octets_of(a: Address) -> [u8; 6]
-    ensures { result ≡ octets_of a }
-{
-    [a.first, a.second, a.third, a.fourth, a.fifth, a.sixth]
-}
+impl From<Address> for [u8; 6] {
+    ghost from_gives = { λ address octets. octets ≡ octets_of address };
 
-fn address_for(o: [u8; 6]) -> Address
-    ensures { octets_of result ≡ o }
-{
-    Address {
-        first: o[0],
-        second: o[1],
-        third: o[2],
-        fourth: o[3],
-        fifth: o[4],
-        sixth: o[5],
+    fn from(a: Address) -> [u8; 6] {
+        [a.first, a.second, a.third, a.fourth, a.fifth, a.sixth]
     }
 }
 
-fn request_of(q: Request) -> rate::Request
-    ensures { result ≡ request_of q }
-{
-    let destination = q.destination;
-    let source = q.source;
-    rate::Request {
-        destination: octets_of(destination),
-        source: octets_of(source),
-        opcode: q.opcode,
-        bands: q.bands,
-        pe1: q.pe1,
-        rank1: q.rank1,
-        pe2: q.pe2,
-        rank2: q.rank2,
+impl From<[u8; 6]> for Address {
+    ghost from_gives = { λ octets address. octets_of address ≡ octets };
+
+    fn from([first, second, third, fourth, fifth, sixth]: [u8; 6]) -> Address {
+        Address {
+            first,
+            second,
+            third,
+            fourth,
+            fifth,
+            sixth,
+        }
     }
 }
 
-fn request_for(q: rate::Request) -> Request
-    ensures { request_of result ≡ q }
-{
-    let destination = q.destination;
-    let source = q.source;
-    Request {
-        destination: address_for(destination),
-        source: address_for(source),
-        opcode: q.opcode,
-        bands: q.bands,
-        pe1: q.pe1,
-        rank1: q.rank1,
-        pe2: q.pe2,
-        rank2: q.rank2,
+impl From<Request> for rate::Request {
+    ghost from_gives = { λ lent request. request ≡ request_of lent };
+
+    fn from(lent: Request) -> rate::Request {
+        rate::Request {
+            destination: lent.destination.into(),
+            source: lent.source.into(),
+            opcode: lent.opcode,
+            bands: lent.bands,
+            pe1: lent.pe1,
+            rank1: lent.rank1,
+            pe2: lent.pe2,
+            rank2: lent.rank2,
+        }
+    }
+}
+
+impl From<rate::Request> for Request {
+    ghost from_gives = { λ request given. request_of given ≡ request };
+
+    fn from(request: rate::Request) -> Request {
+        Request {
+            destination: request.destination.into(),
+            source: request.source.into(),
+            opcode: request.opcode,
+            bands: request.bands,
+            pe1: request.pe1,
+            rank1: request.rank1,
+            pe2: request.pe2,
+            rank2: request.rank2,
+        }
+    }
+}
+
+impl From<Result<rate_reader::Reading, Refused>> for Reading {
+    ghost from_gives = { λ answer reading. reading_of reading ≡ read answer };
+
+    fn from(answer: Result<rate_reader::Reading, Refused>) -> Reading {
+        match answer {
+            Ok(reading) => Reading {
+                number: 0,
+                addresses: reading.addresses,
+                request: reading.request.into(),
+                start: reading.start,
+                extent: reading.extent,
+            },
+            Err(refused) => Reading {
+                number: refused.into(),
+                ..Reading::default()
+            },
+        }
+    }
+}
+
+impl From<Result<usize, Refused>> for Written {
+    ghost from_gives = { λ answer count. written_of count ≡ written answer };
+
+    fn from(answer: Result<usize, Refused>) -> Written {
+        let (number, count) = match answer {
+            Ok(count) => (0, count),
+            Err(refused) => (refused.into(), 0),
+        };
+        Written { number, count }
     }
 }
 
@@ -108,46 +146,28 @@ fn request_for(q: rate::Request) -> Request
 pub extern "C" fn pik_rate_read(frame: &[u8]) -> Reading
     ensures { reading_of result ≡ read_of frame.now }
 {
-    let reading = rate_reader::read(frame);
-    let request = reading.request;
-    Reading {
-        number: reading.number,
-        addresses: reading.addresses,
-        request: request_for(request),
-        start: reading.start,
-        extent: reading.extent,
-    }
+    rate_reader::read(frame).into()
 }
 
 #[unsafe(no_mangle)]
 pub extern "C" fn pik_rate_write(out: &mut [u8], request: Request, addresses: &[u8]) -> Written
     ensures { Wrote (request_of request) addresses.now out.old out.new (written_of result) }
 {
-    let written = rate::write(out, request_of(request), addresses);
-    Written {
-        number: written.number,
-        count: written.count,
-    }
+    rate::write(out, request.into(), addresses).into()
 }
 
 // The rate of a PE in Mbit/s, or 0 where it has none.
 #[unsafe(no_mangle)]
 pub extern "C" fn pik_rate_of(pe: u8) -> u8
-    ensures { result ≡ get_or (rate_of pe) 0 }
+    ensures { result ≡ unwrap_or (rate_of pe) 0 }
 {
-    match rate::rate_of(pe) {
-        rate::Rate::Mbit(mbit) => mbit,
-        rate::Rate::None => 0,
-    }
+    rate::rate_of(pe).unwrap_or(0)
 }
 
 // The number of the chosen band, or 0 where there is none.
 #[unsafe(no_mangle)]
 pub extern "C" fn pik_rate_chosen(request: Request) -> u8
-    ensures { result ≡ get_or (chosen_of (request_of request)) 0 }
+    ensures { result ≡ unwrap_or (chosen_of (request_of request)) 0 }
 {
-    match rate::chosen_band(request_of(request)) {
-        rate::Chosen::Band(number) => number,
-        rate::Chosen::None => 0,
-    }
+    rate::chosen_band(request.into()).map_or(0, u8::from)
 }

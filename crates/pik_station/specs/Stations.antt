@@ -31,7 +31,7 @@ frame_of f = record { oldest = f.oldest_tx; current = f.current_tx; heard = f.cu
 abbrev pub frame_for : inner-frame.Frame → Frame
 frame_for f = record { oldest_tx = f.oldest; current_tx = f.current; current_rx = f.heard }
 
--- what the host is answer_for of an outcome: all of it
+-- what the host is told of an outcome: all of it
 abbrev pub answer_for : Outcome → StationAnswer
 answer_for o = record {
   number = o.number;

@@ -5,6 +5,8 @@ ghost use Rattle.capability.specs.Sets.{carried};
 ghost use Rattle.capability.specs.Events.{fresh, used, ended, received};
 ghost use Rattle.pik_station.specs.Stations.{station_of, station_for, frame_of, frame_for, answer_for};
 
+use capability::Timer;
+
 // The six sets of a station, in document 01's order.
 #[repr(C)]
 #[derive(Clone, Copy)]
@@ -26,7 +28,7 @@ pub struct Frame {
     pub current_rx: u32,
 }
 
-// The answer to an event. `timer` is 0 kept, 1 started, 2 cancelled.
+// The answer to an event. For C a refusal is a number beside the rest, and `timer` is 0 kept, 1 started, 2 cancelled.
 #[repr(C)]
 #[derive(Clone, Copy)]
 pub struct StationAnswer {
@@ -38,59 +40,79 @@ pub struct StationAnswer {
     pub frame: Frame,
 }
 
-fn station_of(s: Station) -> capability::Station
-    ensures { result ≡ station_of s }
-{
-    capability::Station {
-        default: s.default_set,
-        tx: capability::Tx {
-            new: s.new_tx,
-            previous: s.previous_tx,
-            oldest: s.oldest_tx,
-        },
-        rx: capability::Rx {
-            new: s.new_rx,
-            previous: s.previous_rx,
-        },
+// The station that six words are.
+impl From<Station> for capability::Station {
+    ghost from_gives = { λ words station. station ≡ station_of words };
+
+    fn from(station: Station) -> capability::Station {
+        capability::Station {
+            default: station.default_set,
+            tx: capability::Tx {
+                new: station.new_tx,
+                previous: station.previous_tx,
+                oldest: station.oldest_tx,
+            },
+            rx: capability::Rx {
+                new: station.new_rx,
+                previous: station.previous_rx,
+            },
+        }
     }
 }
 
-fn station_for(s: capability::Station) -> Station
-    ensures { result ≡ station_for s }
-{
-    Station {
-        default_set: s.default,
-        new_tx: s.tx.new,
-        previous_tx: s.tx.previous,
-        oldest_tx: s.tx.oldest,
-        new_rx: s.rx.new,
-        previous_rx: s.rx.previous,
+impl From<capability::Station> for Station {
+    ghost from_gives = { λ station words. words ≡ station_for station };
+
+    fn from(station: capability::Station) -> Station {
+        Station {
+            default_set: station.default,
+            new_tx: station.tx.new,
+            previous_tx: station.tx.previous,
+            oldest_tx: station.tx.oldest,
+            new_rx: station.rx.new,
+            previous_rx: station.rx.previous,
+        }
     }
 }
 
-fn frame_for(f: capability::Frame) -> Frame
-    ensures { result ≡ frame_for f }
-{
-    Frame {
-        oldest_tx: f.oldest,
-        current_tx: f.current,
-        current_rx: f.heard,
+// The frame that three words are.
+impl From<Frame> for capability::Frame {
+    ghost from_gives = { λ words frame. frame ≡ frame_of words };
+
+    fn from(frame: Frame) -> capability::Frame {
+        capability::Frame {
+            oldest: frame.oldest_tx,
+            current: frame.current_tx,
+            heard: frame.current_rx,
+        }
     }
 }
 
-fn answer_for(a: capability::Answer) -> StationAnswer
-    ensures { result ≡ answer_for (outcome_of a) }
-{
-    let timer = a.timer;
-    let station = a.station;
-    let frame = a.frame;
-    StationAnswer {
-        number: a.number,
-        sends: a.sends,
-        timer: timer.number(),
-        reported: a.reported,
-        station: station_for(station),
-        frame: frame_for(frame),
+impl From<capability::Frame> for Frame {
+    ghost from_gives = { λ frame words. words ≡ frame_for frame };
+
+    fn from(frame: capability::Frame) -> Frame {
+        Frame {
+            oldest_tx: frame.oldest,
+            current_tx: frame.current,
+            current_rx: frame.heard,
+        }
+    }
+}
+
+// An answer has number 0.
+impl From<capability::Answer> for StationAnswer {
+    ghost from_gives = { λ answer told. told ≡ answer_for (outcome_of answer) };
+
+    fn from(answer: capability::Answer) -> StationAnswer {
+        StationAnswer {
+            number: 0,
+            sends: answer.sends,
+            timer: answer.timer.into(),
+            reported: answer.reported,
+            station: answer.station.into(),
+            frame: answer.frame.into(),
+        }
     }
 }
 
@@ -98,38 +120,46 @@ fn answer_for(a: capability::Answer) -> StationAnswer
 pub extern "C" fn pik_station_fresh(default_set: u32) -> Station
     ensures { result ≡ station_for (fresh default_set) }
 {
-    station_for(capability::Station::fresh(default_set))
+    capability::Station::fresh(default_set).into()
 }
 
 #[unsafe(no_mangle)]
 pub extern "C" fn pik_station_use(station: Station, flags: u32) -> StationAnswer
     ensures { result ≡ answer_for (used (station_of station) flags) }
 {
-    answer_for(station_of(station).use_flags(flags))
+    let answer = capability::Station::from(station).use_flags(flags);
+    answer.into()
 }
 
 #[unsafe(no_mangle)]
 pub extern "C" fn pik_station_period(station: Station) -> StationAnswer
     ensures { result ≡ answer_for (ended (station_of station)) }
 {
-    answer_for(station_of(station).end_period())
+    let answer = capability::Station::from(station).end_period();
+    answer.into()
 }
 
 #[unsafe(no_mangle)]
 pub extern "C" fn pik_station_receive(station: Station, opcode: u8, frame: Frame) -> StationAnswer
     ensures { result ≡ answer_for (received (station_of station) opcode (frame_of frame)) }
 {
-    let f = capability::Frame {
-        oldest: frame.oldest_tx,
-        current: frame.current_tx,
-        heard: frame.current_rx,
-    };
-    answer_for(station_of(station).receive(opcode, f))
+    let inner = capability::Station::from(station);
+    match inner.receive(opcode, frame.into()) {
+        Ok(answer) => answer.into(),
+        Err(refused) => StationAnswer {
+            number: refused.into(),
+            sends: false,
+            timer: Timer::Kept.into(),
+            reported: 0,
+            station,
+            frame: inner.frame().into(),
+        },
+    }
 }
 
 #[unsafe(no_mangle)]
 pub extern "C" fn pik_station_frame(station: Station) -> Frame
     ensures { result ≡ frame_for (carried (station_of station)) }
 {
-    frame_for(station_of(station).frame())
+    capability::Station::from(station).frame().into()
 }

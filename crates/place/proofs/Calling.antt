@@ -1,7 +1,7 @@
 -- A call on an open place, from what was decided and what was done: the rule for the event is the refusal by the number that was decided, or
 -- what the event does. Assumes nothing.
 use Prim.Native.Nat.{ℕ}
-use mathlib.Core.Path.{◌≡◌, refl, ◌∙◌, subst⁻¹}
+use mathlib.Core.Path.{◌≡◌, ◌∙◌}
 use mathlib.Core.Bool.{cond}
 use mathlib.Core.List.{List, []}
 use lib.Dec.{leb}
@@ -13,60 +13,47 @@ use Rattle.larq.specs.Events.{Act, act_on}
 use Rattle.larq.specs.Table.{number_in_ring, reminder_near}
 use Rattle.slots.specs.Slots.{current_in}
 use Rattle.record.specs.Place.{record_with, record_of}
-use Rattle.place.specs.Call.{lent_at, Buffers, Parts, buffers, Answered, Became, Says, DidAt, Called, rule_at}
+use Rattle.place.specs.Call.{lent_at, Buffers, Parts, buffers, Answered, Told, told, Says, DidAt, Called, rule_at}
 use Rattle.place.specs.declared.Answer.{Answer}
+use Rattle.larq.specs.Refused.{number_of}
+use Rattle.larq.specs.declared.refused.Refused.{Refused}
+use Rattle.std.specs.Prelude.{Result, Ok, Err}
+use Rattle.std.proofs.Common.{arith, rules}
+use Rattle.std.specs.Result.{IsErrAnd}
+use Rattle.std.proofs.lemmas.Result.{err_from_is_err_and}
+use Rattle.record.specs.Lengths.{lengths_of, lent_by}
+use Rattle.record.specs.declared.Lengths.{Lengths}
 use Rattle.record.specs.declared.Record.{Record}
-use Rattle.judging.specs.Judge.{common}
+use Rattle.judging.specs.Judge.{common, judged_says, judged_for}
 use Rattle.judging.proofs.Refusing.{common_to_all}
 use Rattle.judging.proofs.Saying.{said_refused}
 use Rattle.judging.proofs.Sounds.{sound_handles}
 use Rattle.record.proofs.Laying.{wrote_idle}
-use Rattle.place.proofs.Opening.{Stopped, Opened}
+use Rattle.place.proofs.Opening.{Stopped, Opened, stopped_by}
 
 -- All counts are 0, and no buffer is touched.
-pub answered_none : {n : ℕ} {change : Change ℕ} {b : Buffers} {a : Answer} → Says n 0 0 0 0 a
-    → Answered (record { answer = record { number = n; up = []; returned = []; nack = []; lost = 0 }; change = change }) b b a
-answered_none says =
-    record {
-      number = says.number;
-      up = record { count = says.up; buffer = refl };
-      returned = record { count = says.returned; buffer = refl };
-      nack = record { count = says.nack; buffer = refl };
-      lost = says.lost;
-    }
+pub answered_none : {change : Change ℕ} {b : Buffers} {a : Answer} → Says 0 0 0 0 a
+    → Answered (record { answer = record { number = 0; up = []; returned = []; nack = []; lost = 0 }; change = change }) b b (told (Ok a))
+answered_none says = grind arith
 
 -- A refusal touches nothing.
-pub did_nothing : {n : ℕ} {p : Parts} {b : Buffers} {a : Answer} → Says n 0 0 0 0 a → DidAt (refused n) p p b b a
-did_nothing says = record { answer = answered_none says; became = refl }
+pub did_nothing : {p : Parts} {b : Buffers} (e : Refused) → DidAt (refused (number_of e)) p p b b (told (Err e))
+did_nothing e = search rules
 
 -- The same outcome, told in another way.
-pub did_as : {o o' : Outcome ℕ} {before after : Parts} {had has : Buffers} {a : Answer} → o ≡ o' → DidAt o' before after had has a
+pub did_as : {o o' : Outcome ℕ} {before after : Parts} {had has : Buffers} {a : Told} → o ≡ o' → DidAt o' before after had has a
     → DidAt o before after had has a
-did_as {o} {o'} {before} {after} {had} {has} {a} e d =
-    record {
-      answer = subst⁻¹ (λ (x : Outcome ℕ). Answered x had has a) e d.answer;
-      became = subst⁻¹ (λ (x : Outcome ℕ). Became x.change before after) e d.became;
-    }
+did_as {o} {o'} {before} {after} {had} {has} {a} e d = grind arith
 
 -- A buffer that a function was not lent stays as it is.
-module _ {o : Outcome ℕ} {before after : Parts} {a : Answer} where
+module _ {o : Outcome ℕ} {before after : Parts} {a : Told} where
   pub did_returned : {U u N n : List ℕ} (B : List ℕ) → DidAt o before after (buffers U [] N) (buffers u [] n) a
       → DidAt o before after (buffers U B N) (buffers u B n) a
-  did_returned B d =
-      let x = d.answer in
-      record {
-        answer = record { number = x.number; up = x.up; returned = wrote_idle _ B _ x.returned; nack = x.nack; lost = x.lost };
-        became = d.became;
-      }
+  did_returned B d = grind (arith, wrote_idle)
 
   pub did_nack : {U u B b : List ℕ} (N : List ℕ) → DidAt o before after (buffers U B []) (buffers u b []) a
       → DidAt o before after (buffers U B N) (buffers u b N) a
-  did_nack N d =
-      let x = d.answer in
-      record {
-        answer = record { number = x.number; up = x.up; returned = x.returned; nack = wrote_idle _ N _ x.nack; lost = x.lost };
-        became = d.became;
-      }
+  did_nack N d = grind (arith, wrote_idle)
 
 module _ (p : Parts) (b : Buffers) (s time : ℕ) (act : Act ℕ) (number : number_in_ring act ≡ leb s 4095) where
   abbrev c : Channel ℕ
@@ -84,21 +71,30 @@ module _ (p : Parts) (b : Buffers) (s time : ℕ) (act : Act ℕ) (number : numb
   unfolding record_with
   rule_is = common_to_all (lent_at p b) s time c act number ∙ rw (sound_handles p.words p.handles p.marks)
 
-  rule_stopped : {n : ℕ} → Stopped p b s time n → rule_at p b time act ≡ refused n
-  rule_stopped {n} stopped = rule_is ∙ said_refused refused done tests (current_in p.words) _ n stopped.by
+  rule_stopped : {e : Refused} → Stopped p b s time e → rule_at p b time act ≡ refused (number_of e)
+  rule_stopped {e} stopped = rule_is ∙ said_refused refused done tests (current_in p.words) _ (number_of e) stopped.by
 
   rule_opened : {r : Record} → Opened p b s time r → rule_at p b time act ≡ done
   rule_opened opened = let at = opened.at in rule_is ∙ rw (at.lent, at.number, at.whole, at.late)
 
-called : {p after : Parts} {b has : Buffers} {time : ℕ} {act : Act ℕ} {o : Outcome ℕ} {a : Answer} → rule_at p b time act ≡ o → DidAt o p after b has a
+called : {p after : Parts} {b has : Buffers} {time : ℕ} {act : Act ℕ} {o : Outcome ℕ} {a : Told} → rule_at p b time act ≡ o → DidAt o p after b has a
     → Called act time p after b has a
 called e d = let x = did_as e d in record { answer = x.answer; became = x.became }
 
 module _ {p : Parts} {b : Buffers} {s time : ℕ} (act : Act ℕ) (number : number_in_ring act ≡ leb s 4095) where
   -- a refusal changes nothing
-  pub called_stopped : {n : ℕ} {a : Answer} → Stopped p b s time n → Says n 0 0 0 0 a → Called act time p p b b a
-  called_stopped stopped says = called (rule_stopped p b s time act number stopped) (did_nothing says)
+  pub called_stopped : {e : Refused} → Stopped p b s time e → Called act time p p b b (told (Err e))
+  called_stopped {e} stopped = called (rule_stopped p b s time act number stopped) (did_nothing e)
 
-  pub called_opened : {r : Record} {o : Outcome ℕ} {after : Parts} {has : Buffers} {a : Answer} → Opened p b s time r
+  pub called_opened : {r : Record} {o : Outcome ℕ} {after : Parts} {has : Buffers} {a : Told} → Opened p b s time r
       → done p b s time act number ≡ o → DidAt o p after b has a → Called act time p after b has a
   called_opened opened e d = called (rule_opened p b s time act number opened ∙ e) d
+
+-- The exit at which a call hands on what judged it: what refused the event is what the call answers, and nothing has changed.
+pub called_exit : {p : Parts} {b : Buffers} {time : ℕ} {act : Act ℕ} {l : Lengths} {j : Result Record Refused} {e : Refused} (s : ℕ)
+    → number_in_ring act ≡ leb s 4095 → l ≡ lengths_of p.words p.handles p.marks b.up b.returned b.nack
+    → judged_says j ≡ judged_for (lent_by l) p.words p.marks s time → j ≡ Err e → (result : Result Answer Refused)
+    → IsErrAnd result (λ f. f ≡ e) → Called act time p p b b (told result)
+called_exit {p} {b} {time} {act} s number lengths says is result gives =
+    let out = err_from_is_err_and result gives in
+    rw (out.1, out.2) (called_stopped act number (stopped_by p b s time lengths says is))

@@ -1,7 +1,7 @@
 -- The step ahead, which data and reminder share: k numbers from C + 1 on become missing, and the last waits or not. The rules let the window
 -- grow and then settle it; the code lets M pass what will be too much first, so that the new numbers find their slots free.
 -- Document 01, 'Data', 'Reminder' and 'Settling'. The window w is any number up to the count of slots. Assumes nothing.
-use Prim.Native.Nat.{ℕ, zero, suc, ◌+◌, ◌-◌, ◌%◌, ◌≤◌, ◌<◌}
+use Prim.Native.Nat.{ℕ, zero, suc, ◌+◌, ◌-◌, ◌≤◌, ◌<◌}
 use mathlib.Core.Path.{◌≡◌, refl, ap, ap₂, sym, ◌∙◌}
 use mathlib.Core.Bool.{true}
 use mathlib.Core.List.{List, [], ◌∷◌, ◌++◌, append-nil}
@@ -10,7 +10,7 @@ use lib.ListN.{length, take, drop, replicate, length-append, length-replicate, l
 use lib.Seq.{drop-append-le}
 use borrow.Author.Tests.{le-ltb}
 use Rattle.ring.specs.Ring.{half, size, forward, next, steps, rising}
-use Rattle.ring.proofs.Steps.{forward_small, forward_forward, forward_steps}
+use Rattle.ring.proofs.Steps.{forward_small, forward_forward}
 use Rattle.larq.specs.Channel.{Cell, missing, waiting, head_missing, reach, Channel, span_of}
 use Rattle.larq.specs.Settling.{Walked, walk, wide}
 use Rattle.larq.specs.Events.{asked}
@@ -20,8 +20,8 @@ use Rattle.record.specs.Walk.{earlier, passes, waiting_of}
 use Rattle.slots.proofs.Stores.{mark_stores}
 use Rattle.stepping.specs.Step.{times_missing, marks_missing}
 use Rattle.place.specs.Steps.{Sized, cells_of, handles_with, marks_with, Last, Waits, Missing}
-use Rattle.record.proofs.Rounds.{slots_apart, span_end, span_between}
-use Rattle.record.proofs.Windows.{length_cells_from, drop_cells_from, take_cells_from, cell_missing}
+use Rattle.record.proofs.Rounds.{slots_apart, span_end}
+use Rattle.record.proofs.Windows.{length_cells_from, drop_cells_from, take_cells_from}
 use Rattle.record.proofs.Waiting.{waiting_cells_from}
 use Rattle.stepping.proofs.Stamping.{length_stamped}
 use Rattle.place.proofs.Cells.{cell_brought, cell_beside, cell_missed, cell_unmissed, cells_from_grown}
@@ -52,13 +52,6 @@ last_few : (last : Last) → length (cells_of last) ≤ 1
 last_few (Waits x) = omega arith
 last_few Missing = omega arith
 
-past_made : (w n d k e over past : ℕ) → 0 < w → e ≤ 1 → 0 < d → d ≡ k + e → over ≡ n + d - w → past ≡ over - n → past ≤ k
-past_made w n d k e over past a b f g h i = omega arith
-
-old_and_new : (w n d k e over past count : ℕ) → 0 < w → n ≤ w → e ≤ 1 → 0 < d → d ≡ k + e → over ≡ n + d - w → past ≡ over - n → count ≡ k - past
-    → n + d - over ≡ (n - over) + (count + e)
-old_and_new w n d k e over past count a b f g h i j l = omega arith
-
 not_too_wide : (w n d over : ℕ) → over ≡ n + d - w → n + d - over ≤ w
 not_too_wide w n d over e = omega arith
 
@@ -67,13 +60,10 @@ over_few w n d over e = omega arith
 
 module _ {w c m s k n d over past count first : ℕ} {last : Last} (g : Grows w c m s k n d over past count first last) where
   pub past_few : past ≤ k
-  past_few =
-      past_made w n d k (length (cells_of last)) over past g.window_some (last_few last) g.d_some g.d_all g.over_is g.past_is
+  past_few = grind (arith, last_few)
 
   sizes : n + d - over ≡ (n - over) + (count + length (cells_of last))
-  sizes =
-      old_and_new w n d k (length (cells_of last)) over past count g.window_some g.n_fits (last_few last) g.d_some g.d_all g.over_is
-      g.past_is g.count_is
+  sizes = grind arith
 
   pub narrow_again : n + d - over ≤ w
   narrow_again = not_too_wide w n d over g.over_is
@@ -83,50 +73,11 @@ module _ {w c m s k n d over past count first : ℕ} {last : Last} (g : Grows w 
 
   -- the first new number that stays follows the old ones that stay
   first_follows : first ≡ forward (forward m over) (n - over)
-  first_follows =
-      g.first_is
-      ∙ sym (forward_forward c 1 past)
-      ∙ ap (λ x. forward x past) (sym after_c)
-      ∙ forward_forward m n past
-      ∙ ap (forward m) (regroup n over past g.past_is)
-      ∙ sym (forward_forward m over (n - over))
-    where
-      regroup : (n over past : ℕ) → past ≡ over - n → n + past ≡ over + (n - over)
-      regroup n over past e = omega arith
-
-  s_is : forward c d ≡ s
-  s_is = ap (forward c) g.d_is ∙ forward_steps c s ∙ small s g.s_ring
-    where
-      small : (s : ℕ) → s < size → s % size ≡ s
-      small s h = omega arith
+  first_follows = grind arith
 
   -- a waiting last number follows those that became missing
   last_follows : length (cells_of last) ≡ 1 → forward first count ≡ s
-  last_follows e =
-      ap (λ x. forward x count) g.first_is
-      ∙ forward_forward c (1 + past) count
-      ∙ ap (forward c) (regroup k past count d (length (cells_of last)) past_few g.count_is g.d_all e)
-      ∙ s_is
-    where
-      regroup : (k past count d e : ℕ) → past ≤ k → count ≡ k - past → d ≡ k + e → e ≡ 1 → 1 + past + count ≡ d
-      regroup k past count d e a b f h = omega arith
-
-  -- the span when s is C and M has passed what was too much
-  pub span_again : span_of s (forward m over) ≡ n + d - over
-  span_again =
-      span_between s m over (n + d) (over_few w n d over g.over_is) (small w n d g.window_fits g.n_fits g.d_near)
-      (sym (forward_forward m n d)
-      ∙ ap (λ x. forward x d) after_c
-      ∙ forward_forward c 1 d
-      ∙ ap (forward c) (swap d)
-      ∙ sym (forward_forward c d 1)
-      ∙ ap next s_is)
-    where
-      small : (w n d : ℕ) → w ≤ slots → n ≤ w → d ≤ reach w → n + d < size
-      small w n d a b e = omega arith
-
-      swap : (d : ℕ) → 1 + d ≡ d + 1
-      swap d = omega arith
+  last_follows e = grind arith
 
   -- The window before and after.
   module _ (W H K : List ℕ) (sized : Sized W H K) (t : ℕ) where
@@ -237,11 +188,7 @@ module _ {w c m s k n d over past count first : ℕ} {last : Last} (g : Grows w 
     -- No more goes up than waits: fewer than w of the old numbers, as M is missing, and the last.
     pub head_missing_law : (0 < n → is_missing K (slot_of m) ≡ true) → head_missing cells ≡ true
     unfolding cells_from
-    head_missing_law o = by_span n o
-      where
-        by_span : (n : ℕ) → (0 < n → is_missing K (slot_of m) ≡ true) → head_missing (cells_from (cell_at W H K) m n) ≡ true
-        by_span zero o = refl
-        by_span (suc n) o = rw (cell_missing W H K (slot_of m) (o (omega arith)))
+    head_missing_law o = grind arith
 
     pub up_room : (0 < n → is_missing K (slot_of m) ≡ true) → length handed + length walk_again.up ≤ w
     up_room o =

@@ -1,6 +1,7 @@
 -- What an event that no number of the common ones refuses may rely on: lengths, a number in the ring and a sound record, as the functions
 -- that act ask for them. Assumes nothing.
 use Prim.Native.Nat.{ℕ, ◌-◌, ◌≤◌, ◌<◌}
+use Rattle.std.specs.Prelude.{Result, Ok, Err}
 use mathlib.Core.Path.{◌≡◌, refl, ap, ap₂, sym, ◌∙◌, subst}
 use mathlib.Core.Bool.{Bool, true, false, false≢true}
 use mathlib.Core.List.{List, [], ◌∷◌}
@@ -9,6 +10,8 @@ use lib.Dec.{leb}
 use lib.ListN.{length}
 use borrow.Author.Tests.{leb-true}
 use Rattle.wire.specs.Answers.{Said, refused}
+use Rattle.larq.specs.Refused.{number_of}
+use Rattle.larq.specs.declared.refused.Refused.{Refused}
 use Rattle.ring.specs.Ring.{next, steps, seen, Ahead, size}
 use Rattle.ring.proofs.Sides.{Seen, sees}
 use Rattle.larq.specs.Channel as channel
@@ -20,8 +23,8 @@ use Rattle.record.specs.Moving.{record_in, span_in}
 use Rattle.place.specs.Steps.{Ready, IsAhead, Waits, Missing}
 use Rattle.judging.specs.Judge.{judged_says, judged_for, in_ring, in_shape}
 use Rattle.record.specs.declared.Record.{Record}
-use Rattle.judging.specs.declared.Judged.{Judged}
-use Rattle.judging.specs.declared.Judged.TheVariants.{Refused, Open}
+use Rattle.record.specs.declared.Lengths.{Lengths}
+use Rattle.record.specs.Lengths.{lengths_of, lent_by}
 use Rattle.record.proofs.Windows.{length_cells_from, cells_from_suc, cell_waits}
 use Rattle.wire.proofs.Joined.{and_left, and_right}
 use Rattle.judging.proofs.Saying.{OpenAt, open_at}
@@ -43,18 +46,23 @@ head_of w k m n e p = by_mark (is_missing k (slot_of m)) refl
 abbrev decided : Parts → Buffers → ℕ → ℕ → Said
 decided p b s time = judged_for (lent_at p b) p.words p.marks s time
 
-pub record Stopped (p : Parts) (b : Buffers) (s time number : ℕ) : Type 0 where
-  pub by : refused number ≡ decided p b s time
+pub record Stopped (p : Parts) (b : Buffers) (s time : ℕ) (e : Refused) : Type 0 where
+  pub by : refused (number_of e) ≡ decided p b s time
 
 pub record Opened (p : Parts) (b : Buffers) (s time : ℕ) (r : Record) : Type 0 where
   pub at : OpenAt (lent_at p b) p.words p.marks s time r
 
-module _ (p : Parts) (b : Buffers) (s time : ℕ) {j : Judged} (says : judged_says j ≡ decided p b s time) where
-  pub stopped_by : {number : ℕ} → j ≡ Refused number → Stopped p b s time number
-  stopped_by e = record { by = sym (ap judged_says e) ∙ says }
+-- The judgement of a call that tells the lengths of what it was lent.
+module _ (p : Parts) (b : Buffers) (s time : ℕ) {l : Lengths} (lengths : l ≡ lengths_of p.words p.handles p.marks b.up b.returned b.nack) where
+  asked : judged_for (lent_by l) p.words p.marks s time ≡ decided p b s time
+  asked = ap (λ x. judged_for (lent_by x) p.words p.marks s time) lengths
 
-  pub opened_by : {r : Record} → j ≡ Open r → Opened p b s time r
-  opened_by {r} e = record { at = open_at (lent_at p b) p.words p.marks s time r (sym (ap judged_says e) ∙ says) }
+  module _ {j : Result Record Refused} (says : judged_says j ≡ judged_for (lent_by l) p.words p.marks s time) where
+    pub stopped_by : {e : Refused} → j ≡ Err e → Stopped p b s time e
+    stopped_by is = record { by = sym (ap judged_says is) ∙ (says ∙ asked) }
+
+    pub opened_by : {r : Record} → j ≡ Ok r → Opened p b s time r
+    opened_by {r} is = record { at = open_at (lent_at p b) p.words p.marks s time r (sym (ap judged_says is) ∙ (says ∙ asked)) }
 
 module _ {p : Parts} {b : Buffers} {s time : ℕ} {r : Record} (opened : Opened p b s time r) where
   abbrev W : List ℕ
@@ -103,20 +111,10 @@ module _ (c s d : ℕ) (is : seen (reach channel.window) c s ≡ Ahead d) where
   ahead_some = ahead_of.some
 
   pub ahead_frame : (x : ℕ) → IsAhead c s (d - 1) (Waits x)
-  ahead_frame x =
-      record {
-        some = omega (arith, ahead_of.is, ahead_of.some);
-        near = omega (arith, ahead_of.is, ahead_of.near);
-        all = omega (arith, ahead_of.is, ahead_of.some);
-      }
+  ahead_frame x = grind (arith, ahead_of)
 
   pub ahead_reminder : IsAhead c s d Missing
-  ahead_reminder =
-      record {
-        some = omega (arith, ahead_of.is, ahead_of.some);
-        near = omega (arith, ahead_of.is, ahead_of.near);
-        all = omega (arith, ahead_of.is);
-      }
+  ahead_reminder = grind (arith, ahead_of)
 
 pub ahead_by_one : (c s : ℕ) → seen (reach channel.window) c s ≡ Ahead 1 → steps c s ≡ 1
 ahead_by_one c s is = (ahead_of c s 1 is).is

@@ -42,7 +42,7 @@ passed_of r until words handles marks = passes (walk_of r until words handles ma
 
 -- the answer that counts make, of an accepted call that gives nothing back
 abbrev pub answer_of : Counts → Answer
-answer_of k = record { number = 0; up = k.up; returned = 0; nack = k.nack; lost = k.lost }
+answer_of k = record { up = k.up; returned = 0; nack = k.nack; lost = k.lost }
 
 -- M can settle: it is a number of the ring, and what it passes has room behind what was handed up before in this call
 pub record Roomy (r : Record) (had : Counts) (w h k up : List ℕ) : Type 0 where

@@ -11,7 +11,7 @@ use Rattle.larq.specs.Events.{filling}
 module _ {H : Type 0} where
   pub filling_missing : (cs : List (Cell H)) (i t : ℕ) (d : Cell H) (h : H) → i < length cs → get_or cs i d ≡ missing t
       → filling cs i h ≡ some (set cs i (waits h))
-  filling_missing [] i t d h l e = absurd (let z : ⊥ = omega arith in z)
+  filling_missing [] i t d h l e = grind arith
   filling_missing (waits g ∷ cs) zero t d h l e = cc
   filling_missing (missing u ∷ cs) zero t d h l e = refl
   filling_missing (waits g ∷ cs) (suc i) t d h l e = rw (filling_missing cs i t d h (omega arith) e)
@@ -26,6 +26,6 @@ module _ {H : Type 0} where
 
   pub filling_past : (cs : List (Cell H)) (i : ℕ) (h : H) → length cs ≤ i → filling cs i h ≡ none
   filling_past [] i h l = refl
-  filling_past (c ∷ cs) zero h l = absurd (let z : ⊥ = omega arith in z)
+  filling_past (c ∷ cs) zero h l = grind arith
   filling_past (waits f ∷ cs) (suc i) h l = rw (filling_past cs i h (omega arith))
   filling_past (missing u ∷ cs) (suc i) h l = rw (filling_past cs i h (omega arith))

@@ -10,8 +10,7 @@ use borrow.Rule.Slice.PartMut.{mid_of, put_mid}
 use Rattle.larq.specs.Answer.{Outcome}
 use Rattle.larq.specs.Channel.{window}
 use Rattle.record.specs.Buffers.{Wrote}
-use Rattle.place.specs.Call.{Parts, buffers, DidAt}
-use Rattle.place.specs.declared.Answer.{Answer}
+use Rattle.place.specs.Call.{Parts, buffers, Told, DidAt}
 
 abbrev pub front : List ℕ → List ℕ
 front b = mid_of 0 window b
@@ -33,7 +32,7 @@ front_wrote list b y n room sized w =
     }
 
 -- a call that was lent the fronts of the first two buffers
-pub front_did : {rule : Outcome ℕ} {before after : Parts} {U R N u r n : List ℕ} {a : Answer} → window ≤ length U → window ≤ length R
+pub front_did : {rule : Outcome ℕ} {before after : Parts} {U R N u r n : List ℕ} {a : Told} → window ≤ length U → window ≤ length R
     → length u ≡ length (front U) → length r ≡ length (front R) → DidAt rule before after (buffers (front U) (front R) N) (buffers u r n) a
     → DidAt rule before after (buffers U R N) (buffers (put_mid 0 window U u) (put_mid 0 window R r) n) a
 front_did {U = U} {R = R} {u = u} {r = r} up_room returned_room up-sized returned-sized did =

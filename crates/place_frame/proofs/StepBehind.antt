@@ -15,7 +15,8 @@ use Rattle.larq.specs.Answer.{accepted, holds}
 use Rattle.larq.specs.Events.{asked, filled, settled_at, moved, taken}
 use Rattle.slots.specs.Slots.{slot_of, time_at, handle_at, with_handle, with_waiting}
 use Rattle.record.specs.Place.{cells_from, cell_at, record_with}
-use Rattle.place.specs.Call.{DidAt, parts, buffers}
+use Rattle.place.specs.Call.{DidAt, told, parts, buffers}
+use Rattle.std.specs.Prelude.{Ok}
 use Rattle.record.specs.Walk.{earlier}
 use Rattle.record.specs.Moving.{record_in, span_in}
 use Rattle.stepping.specs.Step.{nothing}
@@ -91,14 +92,7 @@ module _ {r : Record} {W H K : List ℕ} (ready : Ready r W H K) (s x t : ℕ) w
         (walk_narrow channel.window m (cells_from (cell_at W H' K') m n) (rw (length_cells_from (cell_at W H' K') m n) ready.narrow))
 
     few_up : length again.up ≤ window
-    few_up =
-        omega (
-          arith,
-          up_few (earlier 0) m (cells_from (cell_at W H' K') m n),
-          waiting_few (cells_from (cell_at W H' K') m n),
-          length_cells_from (cell_at W H' K') m n,
-          ready.narrow,
-        )
+    few_up = grind (arith, up_few, waiting_few, length_cells_from)
 
     -- The number is brought, and M settles with C where it was.
     module _ {h k : List ℕ} {to : Record} (handles-are : h ≡ H') (marks-are : k ≡ K') (to-current : to.current.0 ≡ c)
@@ -110,15 +104,10 @@ module _ {r : Record} {W H K : List ℕ} (ready : Ready r W H K) (s x t : ℕ) w
       none_lost = never_lost to.oldest.0 (cells_from (cell_at W h k) to.oldest.0 (span_in to))
 
       pub filled_room : (U : List ℕ) → window ≤ length U → Roomy to nothing W h k U
-      filled_room U room =
-          record {
-            oldest = rw to-oldest ready.oldest;
-            room =
-                omega (arith, ap (λ p. length p.up) walk_to, few_up, none_lost);
-          }
+      filled_room U room = grind (arith, walk_to, few_up, none_lost)
 
       pub filled_did : {U w u : List ℕ} {n : Counts} → Finished to (parts W h k) nothing U w u n → window ≤ length U
-          → DidAt (filled_at (record_in r W H K) t s x) (parts W H K) (parts w h k) (buffers U [] []) (buffers u [] []) (answer_of n)
+          → DidAt (filled_at (record_in r W H K) t s x) (parts W H K) (parts w h k) (buffers U [] []) (buffers u [] []) (told (Ok (answer_of n)))
       filled_did f room =
           rw rule_missing
           (record {

@@ -1,15 +1,15 @@
 // What an accepted frame does to a place and the buffers: nothing is decided here (document 01, 'Data').
-ghost use Rattle.std.specs.Prelude.{◌≡◌, [], ◌∷◌, ◌≤◌, ◌<◌, length, set};
+ghost use Rattle.std.specs.Prelude.{◌≡◌, [], ◌∷◌, ◌≤◌, ◌<◌, length, set, Ok};
 ghost use Rattle.larq.specs.Channel.{window, waits};
 ghost use Rattle.larq.specs.Events.{ahead, restarted};
 ghost use Rattle.ring.specs.Ring.{size};
 ghost use Rattle.slots.specs.Slots.{slot_of, with_latest, with_handle, with_waiting};
-ghost use Rattle.place.specs.Call.{DidAt, Says, parts, buffers};
+ghost use Rattle.place.specs.Call.{DidAt, Says, parts, buffers, told};
 ghost use Rattle.record.specs.Moving.{record_in};
 ghost use Rattle.place.specs.Steps.{Sized, Ready, Roomy, Finished, answer_of, Waits, IsAhead, filled_at};
 ghost use Rattle.judging.specs.Judge.{MissingAt};
 
-use place::{Answer, accepted, begun};
+use place::{Answer, begun};
 use record::{NEVER, Record, hand};
 use ring::Seq;
 use slots::{set_latest, set_waiting};
@@ -60,7 +60,7 @@ pub(crate) fn ahead(
         (parts words.old handles.old marks.old)
         (parts words.new handles.new marks.new)
         (buffers up.old [] nack.old)
-        (buffers up.new [] nack.new) (answer_of result) }
+        (buffers up.new [] nack.new) (told (Ok (answer_of result))) }
 {
     let p = widened(r, words, handles, marks, up, nack, s, made, time);
     let g = p.grown;
@@ -84,7 +84,7 @@ pub(crate) fn filled(
         (parts words.old handles.old marks.old)
         (parts words.new handles.new marks.new)
         (buffers up.old [] [])
-        (buffers up.new [] []) (answer_of result) }
+        (buffers up.new [] []) (told (Ok (answer_of result))) }
 {
     let kept = r.arrived(r.current, time);
     brought(kept, words, handles, marks, up, Counts::NONE, s, handle)
@@ -93,11 +93,14 @@ pub(crate) fn filled(
 // Number s waits already or lies before M: its handle comes back, and only the latest time changes.
 pub(crate) fn sent_back(words: &mut [u64], returned: &mut [u32], handle: u32, time: u64) -> Answer
     requires { 0 < length returned.old }
-    ensures { (words.new ≡ with_latest words.old time) × (returned.new ≡ set returned.old 0 handle) × Says 0 0 1 0 0 result }
+    ensures { (words.new ≡ with_latest words.old time) × (returned.new ≡ set returned.old 0 handle) × Says 0 1 0 0 result }
 {
     set_latest(words, time);
     returned[0] = handle;
-    accepted(0, 1, 0, 0)
+    Answer {
+        returned: 1,
+        ..Answer::NONE
+    }
 }
 
 // Number s is far: every waiting handle comes back, and the channel is as one that s has just opened.
@@ -118,10 +121,11 @@ pub(crate) fn restarted(
         (parts words.old handles.now marks.now)
         (parts words.new handles.now marks.now)
         (buffers up.old returned.old [])
-        (buffers up.new returned.new []) result }
+        (buffers up.new returned.new []) (told (Ok result)) }
 {
     let back = hand(handles, marks, r.oldest, r.span(), returned);
-    let mut answer = begun(words, up, s, handle, time);
-    answer.returned = back;
-    answer
+    Answer {
+        returned: back,
+        ..begun(words, up, s, handle, time)
+    }
 }

@@ -1,24 +1,26 @@
 #![tactic(auto)]
 // One place of the table: a data frame comes to one open channel, in place. The events that bring no frame are place_upkeep's.
-ghost use Rattle.std.specs.Prelude.{◌≤◌, ◌<◌, length};
+ghost use Rattle.std.specs.Prelude.{◌≤◌, ◌<◌, length, Ok};
 ghost use Rattle.larq.specs.Events.{frame};
 ghost use Rattle.larq.specs.Channel.{window};
 ghost use Rattle.ring.specs.Ring.{size};
-ghost use Rattle.place.specs.Call.{DidAt, Called, parts, buffers};
+ghost use Rattle.place.specs.Call.{DidAt, Called, parts, buffers, told};
 ghost use Rattle.record.specs.Moving.{record_in};
 ghost use Rattle.place.specs.Steps.{Ready, data_at};
 
 mod act;
 
 use crate::act::{ahead, filled, restarted, sent_back};
-use judging::{Judged, Spot, judge, spot_of};
-use larq::ROOM;
-use place::{Answer, begun, counted, refused};
-use record::Record;
+use judging::{Spot, judge, spot_of};
+use larq::{ROOM, Refused};
+use place::{Answer, begun};
+use record::{Lengths, Record};
 use ring::Seq;
 
 // A data frame comes to the open place: it waits, goes up, comes back or restarts the channel. It is lent no more of a buffer than an answer may
 // need: with a length that is known, the compiler keeps none at hand.
+// The parts of a place and the buffers come one by one, here and below: of a borrowed struct whose fields are `&mut` slices the check does not cover
+// a call that lends one and reads another, as of `settle`, and every contract would have to say that the fields still lend the same slices.
 pub fn data(
     words: &mut [u64],
     handles: &mut [u32],
@@ -29,37 +31,27 @@ pub fn data(
     number: u16,
     handle: u32,
     time: u64,
-) -> Answer
+) -> Result<Answer, Refused>
     ensures { Called (frame number handle) time
         (parts words.old handles.old marks.old)
         (parts words.new handles.new marks.new)
         (buffers up.old returned.old nack.old)
-        (buffers up.new returned.new nack.new) result }
+        (buffers up.new returned.new nack.new) (told result) }
 {
-    match judge(
+    let lent = Lengths::of(words, handles, marks, up, returned, nack);
+    let r = judge(words, marks, lent, number, time)?;
+    Ok(arrive(
+        r,
         words,
+        handles,
         marks,
-        handles.len(),
-        up.len(),
-        returned.len(),
-        nack.len(),
-        number,
+        &mut up[0..ROOM],
+        &mut returned[0..ROOM],
+        nack,
+        Seq(number),
+        handle,
         time,
-    ) {
-        Judged::Refused(n) => refused(n),
-        Judged::Open(r) => arrive(
-            r,
-            words,
-            handles,
-            marks,
-            &mut up[0..ROOM],
-            &mut returned[0..ROOM],
-            nack,
-            Seq(number),
-            handle,
-            time,
-        ),
-    }
+    ))
 }
 
 // A frame that no number refuses comes to the record.
@@ -81,10 +73,10 @@ fn arrive(
         (parts words.old handles.old marks.old)
         (parts words.new handles.new marks.new)
         (buffers up.old returned.old nack.old)
-        (buffers up.new returned.new nack.new) result }
+        (buffers up.new returned.new nack.new) (told (Ok result)) }
 {
     match spot_of(r, marks, s) {
-        Spot::Ahead(d) => counted(ahead(
+        Spot::Ahead(d) => Answer::from(ahead(
             r,
             words,
             handles,
@@ -97,7 +89,7 @@ fn arrive(
             time,
         )),
         Spot::Next => begun(words, up, s, handle, time),
-        Spot::Missing => counted(filled(r, words, handles, marks, up, s, handle, time)),
+        Spot::Missing => Answer::from(filled(r, words, handles, marks, up, s, handle, time)),
         Spot::Unwanted => sent_back(words, returned, handle, time),
         Spot::Far => restarted(r, words, handles, marks, up, returned, s, handle, time),
     }

@@ -1,4 +1,5 @@
 -- A close: the waiting handles all come back, and the place is zeros. Document 01, 'Close'. Assumes nothing.
+use Rattle.std.proofs.Common.{arith}
 use Prim.Native.Nat.{ℕ, ◌≤◌}
 use mathlib.Core.Path.{◌≡◌, refl, ap, sym}
 use mathlib.Core.List.{List, []}
@@ -11,9 +12,10 @@ use Rattle.record.specs.Walk.{waiting_of, hand_numbers}
 use Rattle.record.specs.Moving.{record_in, span_in}
 use Rattle.record.specs.declared.Record.{Record}
 use Rattle.record.proofs.Laying.{wrote_none, wrote_idle}
-use Rattle.place.specs.Call.{Says, Parts, Buffers, parts, buffers, DidAt, Called}
+use Rattle.place.specs.Call.{Says, Told, told, Parts, Buffers, parts, buffers, DidAt, Called}
 use Rattle.place.specs.Steps.{Ready}
 use Rattle.place.specs.declared.Answer.{Answer}
+use Rattle.std.specs.Prelude.{Ok}
 use Rattle.place.proofs.Restarting.{wrote_waiting}
 use Rattle.place.proofs.Opening.{Opened, ready}
 use Rattle.place.proofs.Calling.{did_nack, called_opened}
@@ -22,11 +24,11 @@ use Rattle.place.proofs.Calling.{did_nack, called_opened}
 module _ {r : Record} {W H K : List ℕ} (is-ready : Ready r W H K) where
   pub closed_did : {n : ℕ} {w h k B b : List ℕ} {end : ℕ} {a : Answer} → n ≡ span_in r → Laid (waiting_of H K r.oldest.0 (hand_numbers H K n B)) 0 B b end
       → window ≤ length B → w ≡ replicate (length W) 0 → h ≡ replicate (length H) 0 → k ≡ replicate (length K) 0
-      → Says 0 0 end 0 0 a → DidAt (close_on (record_in r W H K)) (parts W H K) (parts w h k) (buffers [] B []) (buffers [] b []) a
+      → Says 0 end 0 0 a → DidAt (close_on (record_in r W H K)) (parts W H K) (parts w h k) (buffers [] B []) (buffers [] b []) (told (Ok a))
   closed_did e laid room ew eh ek says =
       record {
         answer = record {
-          number = says.number;
+          number = refl;
           up = rw says.up (wrote_none []);
           returned = rw says.returned (wrote_waiting is-ready e laid room);
           nack = rw says.nack (wrote_none []);
@@ -36,16 +38,11 @@ module _ {r : Record} {W H K : List ℕ} (is-ready : Ready r W H K) where
       }
 
 -- a close that no number refuses; the buffer for what goes up stays as it is
-did_up : {o : Outcome ℕ} {before after : Parts} {a : Answer} {B b N n : List ℕ} (U : List ℕ)
+did_up : {o : Outcome ℕ} {before after : Parts} {a : Told} {B b N n : List ℕ} (U : List ℕ)
     → DidAt o before after (buffers [] B N) (buffers [] b n) a → DidAt o before after (buffers U B N) (buffers U b n) a
-did_up U d =
-    let x = d.answer in
-    record {
-      answer = record { number = x.number; up = wrote_idle _ U _ x.up; returned = x.returned; nack = x.nack; lost = x.lost };
-      became = d.became;
-    }
+did_up U d = grind (arith, wrote_idle)
 
-pub called_close : {p after : Parts} {b : Buffers} {time : ℕ} {r : Record} {v : List ℕ} {a : Answer} → Opened p b 0 time r
+pub called_close : {p after : Parts} {b : Buffers} {time : ℕ} {r : Record} {v : List ℕ} {a : Told} → Opened p b 0 time r
     → DidAt (close_on (record_in r p.words p.handles p.marks)) p after (buffers [] b.returned []) (buffers [] v []) a
     → Called close time p after b (buffers b.up v b.nack) a
 unfolding act_on

@@ -17,9 +17,10 @@ use Rattle.record.specs.declared.window.Settled.{Settled}
 use Rattle.record.proofs.Windows.{length_cells_from}
 use Rattle.record.proofs.Laying.{wrote_front, wrote_none}
 use Rattle.record.proofs.Walks.{up_few, waiting_few, walk_stale}
-use Rattle.place.specs.Call.{Says, Parts, Buffers, parts, buffers, DidAt, Called}
+use Rattle.place.specs.Call.{Says, Told, told, Parts, Buffers, parts, buffers, DidAt, Called}
 use Rattle.place.specs.Steps.{Ready, walk_of, passed_of}
 use Rattle.place.specs.declared.Answer.{Answer}
+use Rattle.std.specs.Prelude.{Ok}
 use Rattle.place.proofs.Places.{walked, settled_record, passed_few}
 use Rattle.place.proofs.Opening.{Opened, ready}
 use Rattle.place.proofs.Calling.{did_returned, did_nack, called_opened}
@@ -37,24 +38,22 @@ module _ {r to : Record} {W H K : List ℕ} {until : ℕ} (is-ready : Ready r W 
   walk_to = rw (to-current, to-oldest, stale-before) (sym (walk_stale t r.oldest.0 cells))
 
   few_up : length passed.up ≤ window
-  few_up =
-      omega
-      (arith, up_few (stale t) r.oldest.0 cells, waiting_few cells, length_cells_from (cell_at W H K) r.oldest.0 (span_in r), is-ready.narrow)
+  few_up = grind (arith, up_few, waiting_few, length_cells_from)
 
   room_for : (U : List ℕ) → window ≤ length U → 0 + passed_of to until W H K ≤ length U
   room_for U room =
       omega (arith, passed_few to until W H K (rw to-oldest is-ready.oldest), ap₂ span_of to-current to-oldest, is-ready.narrow)
 
   pub ticked_did : {U u w : List ℕ} {s : Settled} {a : Answer} → window ≤ length U → Settles to (settle_numbers W H K (span_in to) 0 U) until W H K 0 U u s
-      → w ≡ stored_in s.kept W → Says 0 s.up 0 0 s.lost a
-      → DidAt (tick_on (record_in r W H K) t) (parts W H K) (parts w H K) (buffers U [] []) (buffers u [] []) a
+      → w ≡ stored_in s.kept W → Says s.up 0 0 s.lost a
+      → DidAt (tick_on (record_in r W H K) t) (parts W H K) (parts w H K) (buffers U [] []) (buffers u [] []) (told (Ok a))
   unfolding record_with asked
   ticked_did {U} {u} {w} {s} room settles ew says =
       let done = walked is-ready.sized (room_for U room) settles in
       let words-some : times_from ≤ length W = omega (arith, is-ready.sized.words) in
       record {
         answer = record {
-          number = says.number;
+          number = refl;
           up = rw says.up (wrote_front (rw (walk_to, zero-add s.up) at done.up) (omega (arith, few_up)));
           returned = rw says.returned (wrote_none []);
           nack = rw says.nack (wrote_none []);
@@ -68,7 +67,7 @@ module _ {r to : Record} {W H K : List ℕ} {until : ℕ} (is-ready : Ready r W 
       }
 
 -- a tick that no number refuses
-pub called_tick : {p after : Parts} {b : Buffers} {time : ℕ} {r : Record} {u : List ℕ} {a : Answer} → Opened p b 0 time r
+pub called_tick : {p after : Parts} {b : Buffers} {time : ℕ} {r : Record} {u : List ℕ} {a : Told} → Opened p b 0 time r
     → DidAt (tick_on (record_in r p.words p.handles p.marks) time) p after (buffers b.up [] []) (buffers u [] []) a
     → Called tick time p after b (buffers u b.returned b.nack) a
 unfolding act_on

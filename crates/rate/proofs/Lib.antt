@@ -1,3 +1,4 @@
+pub mod Numbers
 pub mod Frame
 pub mod Writable
 pub mod Tabled
@@ -5,3 +6,4 @@ pub mod OneOutcome
 pub mod Lowest
 pub mod RuleCases
 pub mod RateCases
+pub mod Blank

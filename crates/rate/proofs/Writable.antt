@@ -14,9 +14,8 @@ use Rattle.wire.proofs.First.{test}
 use Rattle.wire.proofs.Answered.{all_pass, first_accepts, first_refuses, decided}
 use Rattle.wire.proofs.Joined.{and_left, and_right}
 use Rattle.rate.specs.declared.Request.{Request}
-use Rattle.rate.specs.declared.Written.{Written}
 use Rattle.rate.specs.Request.{some_band}
-use Rattle.rate.specs.Writing.{ss_length_for, absent_band_empty, layout_holds, output_holds, frame_for, writer_refusals, Layable, Frames, write_of, output_of, Wrote}
+use Rattle.rate.specs.Writing.{ss_length_for, absent_band_empty, layout_holds, output_holds, frame_for, writer_refusals, Layable, Frames, Written, write_of, output_of, Wrote}
 
 pub record Layout (q : Request) (a : List ℕ) : Type 0 where
   pub whole : length a % 6 ≡ 0
@@ -87,12 +86,12 @@ pub record Accepted (q : Request) (a before after : List ℕ) (r : Written) : Ty
   pub answer : r ≡ record { number = 0; count = length (frame_for q a) }
   pub output : after ≡ frame_for q a ++ drop (length (frame_for q a)) before
 
-pub record Refused (q : Request) (a before after : List ℕ) (r : Written) : Type 0 where
+pub record Declined (q : Request) (a before after : List ℕ) (r : Written) : Type 0 where
   pub some : first (writer_refusals q a (length before)) ≡ 0 → ⊥
   pub answer : r ≡ record { number = first (writer_refusals q a (length before)); count = 0 }
   pub output : after ≡ before
 
-pub wrote_either : (q : Request) (a before after : List ℕ) (r : Written) → Wrote q a before after r → Accepted q a before after r ⊎ Refused q a before after r
+pub wrote_either : (q : Request) (a before after : List ℕ) (r : Written) → Wrote q a before after r → Accepted q a before after r ⊎ Declined q a before after r
 unfolding writer_refusals write_of output_of
 wrote_either q a before after r w =
     let rows : List Refusal = writer_refusals q a (length before) in

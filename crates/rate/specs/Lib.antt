@@ -1,3 +1,4 @@
+pub mod Refused
 pub mod Request
 pub mod Writing
 pub mod Rates

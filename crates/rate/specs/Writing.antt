@@ -1,10 +1,11 @@
 -- What writing a rate request gives: the frame, the refusals, and the whole output. Document 01, 'Rate requests, in this order'
 -- (15, 16, 23, 18, 19, 20, 21, 24) and 'The rate request on the wire'.
-use Rattle.std.specs.Prelude.{ℕ, ◌+◌, ◌*◌, ◌-◌, ◌/◌, ◌%◌, ◌≤◌, ◌≡◌, Bool, ◌&&◌, ◌||◌, List, [], ◌∷◌, ◌++◌, leb, eqb, length, take, drop, replicate}
+use Rattle.std.specs.Prelude.{ℕ, ◌+◌, ◌*◌, ◌-◌, ◌/◌, ◌%◌, ◌≤◌, ◌≡◌, Bool, ◌&&◌, ◌||◌, List, [], ◌∷◌, ◌++◌, leb, eqb, length, take, drop, replicate, Result, Ok, Err}
 use Rattle.wire.specs.Refusals.{Refusal, ◌else◌, answered}
 use Rattle.rate.specs.Request.{opcode_right, some_band, band_one_right, band_two_right, ranks_right, group_addresses}
 use Rattle.rate.specs.declared.Request.{Request}
-use Rattle.rate.specs.declared.Written.{Written}
+use Rattle.rate.specs.declared.refused.Refused.{Refused}
+use Rattle.rate.specs.Refused.{number_of}
 
 -- SSLength: the octets behind its own, up to and with Next Ethertype
 unfoldable pub ss_length_for : Request → List ℕ → ℕ
@@ -63,6 +64,16 @@ pub record Layable (q : Request) (a out : List ℕ) : Type 0 where
 pub record Frames (q : Request) (a before after : List ℕ) (n : ℕ) : Type 0 where
   pub count : n ≡ length (frame_for q a)
   pub output : after ≡ frame_for q a ++ drop (length (frame_for q a)) before
+
+-- the writer's answer: a number, and how many octets were written
+pub record Written : Type 0 where
+  pub number : ℕ
+  pub count : ℕ
+
+-- the cases of a result: 0 and how many octets were written, or the refusal's number and 0
+abbrev pub written : Result ℕ Refused → Written
+written (Ok n) = record { number = 0; count = n }
+written (Err e) = record { number = number_of e; count = 0 }
 
 -- what the writer answers: 0 and how many octets it wrote, or a refusal's number and 0
 unfoldable pub write_of : Request → List ℕ → ℕ → Written

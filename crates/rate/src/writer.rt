@@ -2,55 +2,55 @@
 ghost use Rattle.std.specs.Prelude.{◌≡◌, ◌≤◌, length};
 ghost use Rattle.wire.specs.Laying.{Lays};
 ghost use Rattle.wire.specs.Refusals.{first};
-ghost use Rattle.rate.specs.Writing.{layout_holds, absent_band_empty, band_part, frame_for, writer_refusals, Layable, Frames, Wrote};
+ghost use Rattle.wire.specs.Answers.{number_in};
+ghost use Rattle.rate.specs.Refused.{number_of};
+ghost use Rattle.rate.specs.Writing.{layout_holds, absent_band_empty, band_part, frame_for, writer_refusals, Layable, Frames, written, Wrote};
 
 use crate::rules::{
     band_one_right, band_two_right, group_addresses, opcode_right, ranks_right, some_band,
 };
-use crate::{Request, Written};
+use crate::{Refused, Request};
 
-// Writes the request's frame: the header, with zeros up to 60 octets where it is shorter. Refused, nothing is written.
-pub fn write(out: &mut [u8], request: Request, addresses: &[u8]) -> Written
-    ensures { Wrote request addresses.now out.old out.new result }
+// A request and its addresses stay two parameters: they come as two by the C interface, and each definition takes two.
+
+// Writes the request's frame, and gives how many octets it has: the header, with zeros up to 60 octets where it is shorter. Refused, nothing is written.
+pub fn write(out: &mut [u8], request: Request, addresses: &[u8]) -> Result<usize, Refused>
+    ensures { Wrote request addresses.now out.old out.new (written result) }
 {
-    let number = refusal(request, addresses, out.len());
-    if number != 0 {
-        return Written { number, count: 0 };
-    }
-    let count = put(out, request, addresses);
-    Written { number: 0, count }
+    test(request, addresses, out.len())?;
+    Ok(put(out, request, addresses))
 }
 
-// The number of the first refusal, or 0.
+// The first refusal, if there is one.
 #[tactic(auto, unfolding(crate::specs::Writing::writer_refusals, crate::specs::Writing::output_holds))]
-fn refusal(request: Request, addresses: &[u8], room: usize) -> u8
-    ensures { result ≡ first (writer_refusals request addresses.now room) }
+fn test(request: Request, addresses: &[u8], room: usize) -> Result<(), Refused>
+    ensures { number_in number_of result ≡ first (writer_refusals request addresses.now room) }
 {
     if !opcode_right(request.opcode) {
-        return 15;
+        return Err(Refused::Opcode);
     }
     if !some_band(request.bands) {
-        return 16;
+        return Err(Refused::Bands);
     }
     if !layout_holds(request, addresses) {
-        return 23;
+        return Err(Refused::Layout);
     }
     if !band_one_right(request.pe1) {
-        return 18;
+        return Err(Refused::BandOne);
     }
     if !band_two_right(request.bands, request.pe2) {
-        return 19;
+        return Err(Refused::BandTwo);
     }
     if !ranks_right(request.bands, request.rank1, request.rank2) {
-        return 20;
+        return Err(Refused::Ranks);
     }
     if !group_addresses(addresses) {
-        return 21;
+        return Err(Refused::Group);
     }
     if room < frame_length(request, addresses) {
-        return 24;
+        return Err(Refused::Room);
     }
-    0
+    Ok(())
 }
 
 // Whether the frame's layout can hold the request: number 23.
@@ -59,26 +59,17 @@ fn layout_holds(request: Request, addresses: &[u8]) -> bool
     ensures { result ≡ layout_holds request addresses.now }
 {
     let octets = addresses.len();
-    if octets % 6 != 0 {
-        return false;
-    }
-    if 2 < request.bands {
-        return false;
-    }
-    if !absent_band_empty(request) {
-        return false;
-    }
-    6 + 2 * request.bands as usize + octets <= 255
+    octets % 6 == 0
+        && request.bands <= 2
+        && absent_band_empty(request)
+        && 6 + 2 * request.bands as usize + octets <= 255
 }
 
 #[tactic(auto, unfolding(crate::specs::Writing::absent_band_empty))]
 fn absent_band_empty(request: Request) -> bool
     ensures { result ≡ absent_band_empty request }
 {
-    if 2 <= request.bands {
-        return true;
-    }
-    request.pe2 == 0 && request.rank2 == 0
+    2 <= request.bands || (request.pe2 == 0 && request.rank2 == 0)
 }
 
 // How many octets the frame has.
@@ -87,7 +78,7 @@ fn frame_length(request: Request, addresses: &[u8]) -> usize
     ensures { result ≡ length (frame_for request addresses.now) }
 {
     let header = 22 + 2 * request.bands as usize + addresses.len();
-    if header < 60 { 60 } else { header }
+    header.max(60)
 }
 
 // Lays the frame over the start of the output.
@@ -118,14 +109,12 @@ fn put(out: &mut [u8], request: Request, addresses: &[u8]) -> usize
 }
 
 // PE and rank for each band.
+#[tactic(auto, unfolding(crate::specs::Writing::band_part))]
 fn lay_bands(out: &mut [u8], at: usize, request: Request) -> usize
-    requires { (1 ≤ request.bands) × (request.bands ≤ 2) }
+    requires { request.bands ≤ 2 }
     ensures { Lays at (band_part request) out.old out.new result }
 {
-    if request.bands == 2 {
-        let both = [request.pe1, request.rank1, request.pe2, request.rank2];
-        return wire::lay(out, at, &both);
-    }
-    let one = [request.pe1, request.rank1];
-    wire::lay(out, at, &one)
+    let pairs = [request.pe1, request.rank1, request.pe2, request.rank2];
+    let end = 2 * request.bands as usize;
+    wire::lay(out, at, &pairs[..end])
 }

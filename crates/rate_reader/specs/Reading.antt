@@ -1,15 +1,13 @@
 -- What reading a rate request gives, on any octets. Document 01, 'Rate requests, in this order' and 'The rate request on the wire'.
-use Rattle.std.specs.Prelude.{ℕ, ◌+◌, ◌*◌, Bool, cond, ◌&&◌, List, [], ◌∷◌, leb, eqb, length, replicate}
+use Rattle.std.specs.Prelude.{ℕ, ◌+◌, ◌*◌, Bool, cond, ◌&&◌, List, [], ◌∷◌, leb, eqb, length, replicate, Result, Ok, Err}
 use Rattle.wire.specs.Octets.{octet_at, six_at, part_at}
-use Rattle.wire.specs.Answers as answers
-use Rattle.wire.specs.Answers.{Said}
 use Rattle.wire.specs.Refusals.{Refusal, ◌else◌, answered}
 use Rattle.wire.specs.ShortFormat.{ethertype_right, ss_type, ss_length, ss_version, header_length, next_ethertype_zero}
 use Rattle.rate.specs.Request.{opcode_right, some_band, band_one_right, band_two_right, ranks_right, group_addresses}
 use Rattle.rate.specs.declared.Request.{Request}
+use Rattle.rate.specs.declared.refused.Refused.{Refused}
+use Rattle.rate.specs.Refused.{number_of}
 use Rattle.rate_reader.specs.declared.Reading.{Reading}
-use Rattle.rate_reader.specs.declared.fields.Pair.{Pair}
-use Rattle.rate_reader.specs.declared.fields.Pair.TheVariants as pair
 
 -- the fields of a frame by their places
 abbrev pub opcode_of : List ℕ → ℕ
@@ -92,10 +90,12 @@ ss_version_right s = eqb (ss_version s) 0
 unfoldable pub lengths_agree : List ℕ → Bool
 lengths_agree s = eqb (ss_length s) (6 + 2 * bands_of s + 6 * count_of s)
 
--- the cases of the answer on both ranks, where its refusal has the number n
-abbrev pub pair_says : ℕ → Pair → Said
-pair_says n (pair.Ranks rank1 rank2) = answers.accepted (rank1 ∷ rank2 ∷ [])
-pair_says n pair.Wrong = answers.refused n
+-- the values of the answer on a field, and on both ranks
+abbrev pub field_value : ℕ → List ℕ
+field_value v = v ∷ []
+
+abbrev pub rank_values : ℕ × ℕ → List ℕ
+rank_values ranks = ranks.0 ∷ ranks.1 ∷ []
 
 -- the reader's refusals in their order
 unfoldable pub refusals : List ℕ → List Refusal
@@ -115,8 +115,16 @@ refusals s =
     ∷ (next_ethertype_zero s else 22)
     ∷ []
 
+-- the reader's answer: a number, the request, the number of addresses, and where the frame holds them
+pub record Read : Type 0 where
+  pub number : ℕ
+  pub request : Request
+  pub addresses : ℕ
+  pub start : ℕ
+  pub extent : ℕ
+
 -- a refusal: the number, and beside it zeros only, without any octets
-abbrev pub refused_by : ℕ → Reading
+abbrev pub refused_by : ℕ → Read
 refused_by n =
     record {
       number = n;
@@ -127,11 +135,16 @@ refused_by n =
     }
 
 -- what is given of a request with so many addresses
-abbrev pub given_of : Request → ℕ → Reading
+abbrev pub given_of : Request → ℕ → Read
 given_of q addresses = record { number = 0; request = q; addresses = addresses; start = start_for q.bands; extent = extent_for addresses }
 
-unfoldable pub accepted : List ℕ → Reading
+unfoldable pub accepted : List ℕ → Read
 accepted s = given_of (request_of s) (count_of s)
 
-unfoldable pub read_of : List ℕ → Reading
+unfoldable pub read_of : List ℕ → Read
 read_of s = answered refused_by (refusals s) (accepted s)
+
+-- the cases of a result: 0 and what was read, or the refusal's number
+abbrev pub read : Result Reading Refused → Read
+read (Ok r) = record { number = 0; request = r.request; addresses = r.addresses; start = r.start; extent = r.extent }
+read (Err e) = refused_by (number_of e)

@@ -6,10 +6,9 @@ mod reader;
 use rate::Request;
 pub use reader::{Received, read, receive};
 
-// What the reader answers: 0 with the request, the number of addresses and where the frame holds them, or a refusal's number with zeros.
-#[derive(Clone, Copy)]
+// What is read of an accepted frame: the request, the number of addresses, and where the frame holds them.
+#[derive(Clone, Copy, Debug, PartialEq, Eq, Default)]
 pub struct Reading {
-    pub number: u8,
     pub request: Request,
     pub addresses: u8,
     pub start: usize,

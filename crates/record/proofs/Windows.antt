@@ -1,6 +1,6 @@
 -- The window as a list of cells, read through a function from slot to cell: how it splits, and what a change of slots makes of it.
 -- Assumes nothing.
-use Prim.Native.Nat.{ℕ, zero, suc, ◌+◌, ◌-◌, ◌≤◌, ◌<◌}
+use Prim.Native.Nat.{ℕ, zero, suc, ◌+◌, ◌-◌, ◌%◌, ◌≤◌, ◌<◌}
 use mathlib.Core.Path.{◌≡◌, refl, ap, ap₂, sym, ◌∙◌}
 use mathlib.Core.List.{List, [], ◌∷◌, ◌++◌}
 use native.Mathlib.Omega.{arith}
@@ -11,6 +11,7 @@ use Rattle.larq.specs.Channel.{Cell, waits, missing}
 use Rattle.slots.specs.Slots.{slots, slot_of, is_missing, time_at, handle_at}
 use mathlib.Core.Bool.{true, false}
 use Rattle.record.specs.Place.{cells_from, cell_at}
+use Rattle.ring.proofs.Steps.{forward_forward}
 use Rattle.record.proofs.Rounds.{forward_none, forward_next, slot_none, slot_next, slots_apart}
 
 module _ (f : ℕ → Cell ℕ) where
@@ -21,6 +22,25 @@ module _ (f : ℕ → Cell ℕ) where
   pub cells_from_suc : (m n : ℕ) → 0 < n → cells_from f m n ≡ f (slot_of m) ∷ cells_from f (next m) (n - 1)
   unfolding cells_from
   cells_from_suc m n p = ap (cells_from f m) (let e : n ≡ suc (n - 1) = omega arith in e)
+
+  -- A loop over n numbers, at its j-th: what is left of them there, told by the number, or by where the loop began.
+  pub cells_from_rest : (m n j : ℕ) → j < n → cells_from f m (n - j) ≡ f (slot_of m) ∷ cells_from f (next m) (n - (j + 1))
+  unfolding cells_from
+  cells_from_rest m n j p = ap (cells_from f m) (let e : n - j ≡ suc (n - (j + 1)) = omega arith in e)
+
+  pub cells_from_past : (m n j : ℕ) → j < n
+      → cells_from f (forward m j) (n - j) ≡ f (slot_of (forward m j)) ∷ cells_from f (forward m (j + 1)) (n - (j + 1))
+  cells_from_past m n j p =
+      cells_from_rest (forward m j) n j p ∙ ap (λ x. f (slot_of (forward m j)) ∷ cells_from f x (n - (j + 1))) (forward_forward m j 1)
+
+  pub cells_from_start : (m n : ℕ) → cells_from f (forward m 0) (n - 0) ≡ cells_from f m n
+  unfolding cells_from
+  cells_from_start m zero = refl
+  cells_from_start m (suc n) =
+      let e : forward m 0 % slots ≡ slot_of m = omega arith in
+      let x : next (forward m 0) ≡ next m = omega arith in
+      let all : suc n - 0 ≡ suc n = omega arith in
+      rw all (ap₂ {C = List (Cell ℕ)} (λ i y. f i ∷ cells_from f y n) e x)
 
   pub length_cells_from : (m n : ℕ) → length (cells_from f m n) ≡ n
   unfolding cells_from

@@ -2,15 +2,17 @@
 // A channel's record by value: C, M and the latest time. Its cells stay in the lent parts (document 01, 'The channel table').
 // What becomes of its window is said here; the loops over a window's slots are in window.rt. What is decided of an event is judging's, the
 // step ahead in place stepping's.
-ghost use Rattle.std.specs.Prelude.{◌≡◌, ◌-◌};
+ghost use Rattle.std.specs.Prelude.{◌≡◌};
 ghost use Rattle.ring.specs.Ring.{forward, next};
 ghost use Rattle.larq.specs.Channel.{window, span_of};
 ghost use Rattle.larq.specs.Table.{lent_enough};
-ghost use Rattle.record.specs.Place.{place_lent};
+ghost use Rattle.record.specs.Lengths.{lengths_of, lent_by};
 ghost use Rattle.record.specs.Moving.{IsGrown, stored_in};
 
+mod cell;
 mod window;
 
+pub use cell::Cell;
 use larq::{WINDOW, has_room};
 use ring::Seq;
 use slots::{is_place, set_head};
@@ -34,25 +36,45 @@ pub struct Grown {
     pub count: u16,
 }
 
-// Whether the parts and the buffers are as long as they should be: number 1.
-pub fn lent_enough(
-    words: usize,
-    handles: usize,
-    marks: usize,
-    up: usize,
-    returned: usize,
-    nack: usize,
-) -> bool
-    ensures { result ≡ lent_enough window (place_lent words handles marks up returned nack) }
-{
-    has_room(up, returned, nack) & is_place(words, handles, marks)
+// How long the parts of a place or of the table and the three answer buffers are that are lent for a call.
+#[derive(Clone, Copy)]
+pub struct Lengths {
+    pub words: usize,
+    pub handles: usize,
+    pub marks: usize,
+    pub up: usize,
+    pub returned: usize,
+    pub nack: usize,
 }
 
-// By how much a exceeds b, or 0.
-fn excess(a: u16, b: u16) -> u16
-    ensures { result ≡ a - b }
-{
-    if b < a { a - b } else { 0 }
+impl Lengths {
+    // Of these parts and buffers.
+    pub fn of(
+        words: &[u64],
+        handles: &[u32],
+        marks: &[u8],
+        up: &[u32],
+        returned: &[u32],
+        nack: &[u16],
+    ) -> Lengths
+        ensures { result ≡ lengths_of words.now handles.now marks.now up.now returned.now nack.now }
+    {
+        Lengths {
+            words: words.len(),
+            handles: handles.len(),
+            marks: marks.len(),
+            up: up.len(),
+            returned: returned.len(),
+            nack: nack.len(),
+        }
+    }
+
+    // Whether they are those of a place, and of buffers that hold any answer: number 1.
+    pub fn lent_enough(self) -> bool
+        ensures { result ≡ lent_enough window (lent_by self) }
+    {
+        has_room(self.up, self.returned, self.nack) & is_place(self.words, self.handles, self.marks)
+    }
 }
 
 impl Record {
@@ -71,18 +93,14 @@ impl Record {
     pub fn span(self) -> u16
         ensures { result ≡ span_of self.current.0 self.oldest.0 }
     {
-        let c = self.current;
-        let m = self.oldest;
-        m.steps(c.forward(1))
+        self.oldest.steps(self.current.forward(1))
     }
 
     // M moves on by so many numbers.
     pub fn moved(mut self, by: u16) -> Self
         ensures { (result.current.0 ≡ self.current.0) × (result.oldest.0 ≡ forward self.oldest.0 by) × (result.latest ≡ self.latest) }
     {
-        let m = self.oldest;
-        let on = m.forward(by);
-        self.oldest = on;
+        self.oldest = self.oldest.forward(by);
         self
     }
 
@@ -108,14 +126,14 @@ impl Record {
     {
         let c = self.current;
         let n = self.span();
-        let over = excess(n + c.steps(s), WINDOW);
-        let past = excess(over, n);
+        let over = (n + c.steps(s)).saturating_sub(WINDOW);
+        let past = over.saturating_sub(n);
         Grown {
             kept: self.arrived(s, time).moved(over),
             over: over as usize,
             old: over - past,
             first: c.forward(1 + past),
-            count: excess(made, past),
+            count: made.saturating_sub(past),
         }
     }
 }

@@ -4,9 +4,9 @@ ghost use Rattle.record.specs.Moving.{span_in, stored_in};
 ghost use Rattle.record.specs.Walk.{Settles, most, settle_numbers, hand_numbers, waiting_of};
 ghost use Rattle.record.specs.Buffers.{Laid};
 
-use crate::Record;
+use crate::{Cell, Record};
 use ring::Seq;
-use slots::{WORDS, handle_of, is_missing, is_place, time_of};
+use slots::{WORDS, handle_of, is_missing, is_place};
 
 // A record whose M has moved on, how many handles went up, and how many numbers were given up.
 #[derive(Clone, Copy)]
@@ -19,18 +19,11 @@ pub struct Settled {
 // No time lies before 0: until then nothing is missing for too long.
 pub const NEVER: u64 = 0;
 
-// How many entries a buffer has from `at` on.
-fn room_from(at: usize, length: usize) -> usize
-    ensures { result ≡ length - at }
+// As many of n numbers as a buffer has room for from `at` on.
+fn least(n: u16, at: usize, length: usize) -> u16
+    ensures { result ≡ most n (length - at) }
 {
-    if at <= length { length - at } else { 0 }
-}
-
-// As many of n numbers as there is room for.
-fn least(n: u16, room: usize) -> u16
-    ensures { result ≡ most n room }
-{
-    if n as usize <= room { n } else { room as u16 }
+    (n as usize).min(length.saturating_sub(at)) as u16
 }
 
 // All n numbers, or none.
@@ -43,6 +36,8 @@ fn all_or_none(all: bool, n: u16) -> u16
 impl Record {
     // M moves on while it waits, and goes up, or is missing since before `until`, and is given up. What goes up is laid into `up` from `at` on.
     // M passes no more numbers than there is room for, and none where the parts are not those of a place.
+    // Parts and buffers stay parameters: the check does not cover a call that lends one field of a borrowed struct as `&mut` and reads another, and every
+    // contract would have to say that the fields still lend the same slices. `up` and `at` stay two: what a call hands up is told of the whole buffer.
     pub fn settled(
         self,
         words: &[u64],
@@ -55,31 +50,32 @@ impl Record {
         ensures { Settles self (settle_numbers words.now handles.now marks.now (span_in self) at up.old) until
             words.now handles.now marks.now at up.old up.new result }
     {
-        let mut kept = self;
-        let mut left = all_or_none(
+        let numbers = all_or_none(
             is_place(words.len(), handles.len(), marks.len()),
-            least(self.span(), room_from(at, up.len())),
+            least(self.span(), at, up.len()),
         );
+        let mut kept = self;
         let mut gone: usize = 0;
         let mut lost: usize = 0;
-        while 0 < left {
-            let m = kept.oldest;
-            if is_missing(marks, m) {
-                if until <= time_of(words, m) {
-                    break;
+        for _ in 0..numbers {
+            match Cell::of(words, handles, marks, kept.oldest) {
+                Cell::Missing(since) => {
+                    if until <= since {
+                        break;
+                    }
+                    lost += 1;
                 }
-                lost += 1;
-            } else {
-                up[at + gone] = handle_of(handles, m);
-                gone += 1;
+                Cell::Waits(handle) => {
+                    up[at + gone] = handle;
+                    gone += 1;
+                }
             }
             kept = kept.moved(1);
-            left -= 1;
         }
         Settled {
-            kept: kept,
+            kept,
             up: gone,
-            lost: lost,
+            lost,
         }
     }
 
@@ -98,8 +94,7 @@ impl Record {
         ensures words_after { words.new ≡ stored_in result.kept words.old }
     {
         let done = self.settled(words, handles, marks, up, at, until);
-        let kept = done.kept;
-        kept.stored(words);
+        done.kept.stored(words);
         done
     }
 }
@@ -110,19 +105,17 @@ pub fn hand(handles: &[u32], marks: &[u8], from: Seq, n: u16, out: &mut [u32]) -
     ensures { Laid (waiting_of handles.now marks.now from.0 (hand_numbers handles.now marks.now n out.old))
         0 out.old out.new result }
 {
-    let mut left = all_or_none(
+    let numbers = all_or_none(
         is_place(WORDS, handles.len(), marks.len()) & (n as usize <= out.len()),
         n,
     );
     let mut to: usize = 0;
-    let mut i = from;
-    while 0 < left {
+    for k in 0..numbers {
+        let i = from.forward(k);
         if !is_missing(marks, i) {
             out[to] = handle_of(handles, i);
             to += 1;
         }
-        i = i.forward(1);
-        left -= 1;
     }
     to
 }

@@ -1,327 +1,248 @@
 // The four channel events and the look at a channel's record: each goes to the table, and its line tells the answer.
-use crate::text;
-use crate::text::Line;
-use larq::ROOM;
-use place::{Answer, accepted};
+use crate::text::List;
+use larq::{ROOM, Refused};
+use place::Answer;
 use ring::Seq;
 use session::{Body, Key};
+use std::alloc::AllocError;
+use std::fmt;
 use table::{KEYS_IN_ALL, SLOTS_IN_ALL, WORDS_IN_ALL};
 use table_calls::View;
 
 // The lent table (docs/LAYOUT.md, 'The channel table').
-pub(crate) type Keys = [u64; KEYS_IN_ALL];
-
-pub(crate) type Words = [u64; WORDS_IN_ALL];
-
-pub(crate) type Handles = [u32; SLOTS_IN_ALL];
-
-pub(crate) type Marks = [u8; SLOTS_IN_ALL];
-
-// An answer with its three lists, and the kind of the event that it is to (docs/LAYOUT.md, 'Sessions'), 0 where it is to none of the four.
-// The events give this and tell nothing: a function that has both the table and the line in hand is dear to check.
 #[derive(Clone, Copy)]
-struct Told {
-    kind: u8,
-    answer: Answer,
+pub(crate) struct Table {
+    keys: [u64; KEYS_IN_ALL],
+    words: [u64; WORDS_IN_ALL],
+    handles: [u32; SLOTS_IN_ALL],
+    marks: [u8; SLOTS_IN_ALL],
+}
+
+// The three lists of an answer, in buffers that hold any.
+#[derive(Clone, Copy)]
+struct Lists {
     up: [u32; ROOM],
     returned: [u32; ROOM],
     nack: [u16; ROOM],
 }
 
-pub(crate) fn answer(
-    keys: &mut Keys,
-    words: &mut Words,
-    handles: &mut Handles,
-    marks: &mut Marks,
-    line: &mut Line,
-    at: usize,
-    event: Body,
-) -> usize {
-    if let Body::Look(key) = event {
-        return look(keys, words, handles, marks, line, at, key);
-    }
-    tell(line, at, acted(keys, words, handles, marks, event))
-}
-
-fn acted(
-    keys: &mut Keys,
-    words: &mut Words,
-    handles: &mut Handles,
-    marks: &mut Marks,
-    event: Body,
-) -> Told {
-    match event {
-        Body::Data(key, time, number, handle) => {
-            data(keys, words, handles, marks, key, time, number, handle)
-        }
-        Body::Reminder(key, time, number) => {
-            reminder(keys, words, handles, marks, key, time, number)
-        }
-        Body::Tick(key, time) => tick(keys, words, handles, marks, key, time),
-        Body::Close(key, time) => close(keys, words, handles, marks, key, time),
-        _ => nothing(),
-    }
-}
-
-fn nothing() -> Told {
-    Told {
-        kind: 0,
-        answer: accepted(0, 0, 0, 0),
+impl Lists {
+    const EMPTY: Lists = Lists {
         up: [0; ROOM],
         returned: [0; ROOM],
         nack: [0; ROOM],
+    };
+}
+
+// What a line tells of an answer: its number, its lists, and the lost count.
+#[derive(Clone, Copy)]
+struct Told {
+    answer: Result<Answer, Refused>,
+    lists: Lists,
+}
+
+impl fmt::Display for Told {
+    fn fmt<W: fmt::Write>(&self, f: &mut fmt::Formatter<W>) -> fmt::Result {
+        let (number, answer) = match self.answer {
+            Ok(answer) => (0, answer),
+            Err(refused) => (u8::from(refused), Answer::NONE),
+        };
+        let up = List(&self.lists.up[..answer.up.min(ROOM)]);
+        let returned = List(&self.lists.returned[..answer.returned.min(ROOM)]);
+        let nack = List(&self.lists.nack[..answer.nack.min(ROOM)]);
+        let lost = answer.lost;
+        write!(
+            f,
+            "{number} up={up} returned={returned} nack={nack} lost={lost}"
+        )
     }
 }
 
-fn data(
-    keys: &mut Keys,
-    words: &mut Words,
-    handles: &mut Handles,
-    marks: &mut Marks,
-    key: Key,
-    time: u64,
-    number: u16,
-    handle: u32,
-) -> Told {
-    let mut up = [0u32; ROOM];
-    let mut returned = [0u32; ROOM];
-    let mut nack = [0u16; ROOM];
-    let to = session::octets(key.destination);
-    let from = session::octets(key.source);
-    let answer = table_frame::data(
-        keys,
-        words,
-        handles,
-        marks,
-        &mut up,
-        &mut returned,
-        &mut nack,
-        &to,
-        &from,
-        key.priority,
-        time,
-        number,
-        handle,
-    );
-    Told {
-        kind: 1,
-        answer,
-        up,
-        returned,
-        nack,
+impl Table {
+    pub(crate) const EMPTY: Table = Table {
+        keys: [0; KEYS_IN_ALL],
+        words: [0; WORDS_IN_ALL],
+        handles: [0; SLOTS_IN_ALL],
+        marks: [0; SLOTS_IN_ALL],
+    };
+
+    pub(crate) fn answer(&mut self, line: &mut String, event: Body) -> Result<(), AllocError> {
+        match event {
+            Body::Data {
+                key,
+                time,
+                number,
+                handle,
+            } => write!(line, " data {}", self.data(key, time, number, handle)),
+            Body::Reminder { key, time, number } => {
+                write!(line, " reminder {}", self.reminder(key, time, number))
+            }
+            Body::Tick { key, time } => write!(line, " tick {}", self.tick(key, time)),
+            Body::Close { key, time } => write!(line, " close {}", self.close(key, time)),
+            Body::Look { key } => self.look(line, key),
+            _ => Ok(()),
+        }
+    }
+
+    fn data(&mut self, key: Key, time: u64, number: u16, handle: u32) -> Told {
+        self.at_channel(key, |table, lists, key| {
+            table_frame::data(
+                &mut table.keys,
+                &mut table.words,
+                &mut table.handles,
+                &mut table.marks,
+                &mut lists.up,
+                &mut lists.returned,
+                &mut lists.nack,
+                key,
+                time,
+                number,
+                handle,
+            )
+        })
+    }
+
+    fn reminder(&mut self, key: Key, time: u64, number: u16) -> Told {
+        self.at_channel(key, |table, lists, key| {
+            table_upkeep::reminder(
+                &table.keys,
+                &mut table.words,
+                &mut table.handles,
+                &mut table.marks,
+                &mut lists.up,
+                &mut lists.returned,
+                &mut lists.nack,
+                key,
+                time,
+                number,
+            )
+        })
+    }
+
+    fn tick(&mut self, key: Key, time: u64) -> Told {
+        self.at_channel(key, |table, lists, key| {
+            table_upkeep::tick(
+                &table.keys,
+                &mut table.words,
+                &mut table.handles,
+                &mut table.marks,
+                &mut lists.up,
+                &mut lists.returned,
+                &mut lists.nack,
+                key,
+                time,
+            )
+        })
+    }
+
+    fn close(&mut self, key: Key, time: u64) -> Told {
+        self.at_channel(key, |table, lists, key| {
+            table_upkeep::close(
+                &mut table.keys,
+                &mut table.words,
+                &mut table.handles,
+                &mut table.marks,
+                &mut lists.up,
+                &mut lists.returned,
+                &mut lists.nack,
+                key,
+                time,
+            )
+        })
+    }
+
+    // What an event is answered at the channel of a key, with lists of its own.
+    fn at_channel<F: FnOnce(&mut Table, &mut Lists, table::Key<'_>) -> Result<Answer, Refused>>(
+        &mut self,
+        key: Key,
+        event: F,
+    ) -> Told
+        requires { F.IsAlwaysCallable event }
+    {
+        let mut lists = Lists::EMPTY;
+        let destination = session::octets(key.destination);
+        let source = session::octets(key.source);
+        let key = table::Key {
+            destination: &destination,
+            source: &source,
+            priority: key.priority,
+        };
+        let answer = event(self, &mut lists, key);
+        Told { answer, lists }
+    }
+
+    // A look at a channel's record changes nothing.
+    fn look(&self, line: &mut String, key: Key) -> Result<(), AllocError> {
+        let mut waits = [0u8; ROOM];
+        let mut values = [0u64; ROOM];
+        let destination = session::octets(key.destination);
+        let source = session::octets(key.source);
+        let result = table_calls::look(
+            &self.keys,
+            &self.words,
+            &self.handles,
+            &self.marks,
+            table::Key {
+                destination: &destination,
+                source: &source,
+                priority: key.priority,
+            },
+            &mut waits,
+            &mut values,
+        );
+        let (number, view) = match result {
+            Ok(view) => (0, view),
+            Err(refused) => (u8::from(refused), NO_VIEW),
+        };
+        let current = view.current;
+        let oldest = view.oldest;
+        let latest = view.latest;
+        let span = view.span;
+        write!(
+            line,
+            " look {number} current={current} oldest={oldest} latest={latest} span={span}"
+        )?;
+        let shown = span.min(ROOM);
+        let cells = Cells {
+            oldest: Seq(oldest),
+            waits: &waits[..shown],
+            values: &values[..shown],
+        };
+        write!(line, " cells={cells}")
     }
 }
 
-fn reminder(
-    keys: &mut Keys,
-    words: &mut Words,
-    handles: &mut Handles,
-    marks: &mut Marks,
-    key: Key,
-    time: u64,
-    number: u16,
-) -> Told {
-    let mut up = [0u32; ROOM];
-    let mut returned = [0u32; ROOM];
-    let mut nack = [0u16; ROOM];
-    let to = session::octets(key.destination);
-    let from = session::octets(key.source);
-    let answer = table_upkeep::reminder(
-        keys,
-        words,
-        handles,
-        marks,
-        &mut up,
-        &mut returned,
-        &mut nack,
-        &to,
-        &from,
-        key.priority,
-        time,
-        number,
-    );
-    Told {
-        kind: 2,
-        answer,
-        up,
-        returned,
-        nack,
-    }
+// What a line tells of a look that is refused: zeros.
+const NO_VIEW: View = View {
+    current: 0,
+    oldest: 0,
+    latest: 0,
+    span: 0,
+};
+
+// A cell for each number from the oldest on, with commas between; `-` where there is none. A number has its handle where it waits, and since when
+// where it is missing.
+#[derive(Clone, Copy)]
+struct Cells<'a> {
+    oldest: Seq,
+    waits: &'a [u8],
+    values: &'a [u64],
 }
 
-fn tick(
-    keys: &mut Keys,
-    words: &mut Words,
-    handles: &mut Handles,
-    marks: &mut Marks,
-    key: Key,
-    time: u64,
-) -> Told {
-    let mut up = [0u32; ROOM];
-    let mut returned = [0u32; ROOM];
-    let mut nack = [0u16; ROOM];
-    let to = session::octets(key.destination);
-    let from = session::octets(key.source);
-    let answer = table_upkeep::tick(
-        keys,
-        words,
-        handles,
-        marks,
-        &mut up,
-        &mut returned,
-        &mut nack,
-        &to,
-        &from,
-        key.priority,
-        time,
-    );
-    Told {
-        kind: 3,
-        answer,
-        up,
-        returned,
-        nack,
-    }
-}
-
-fn close(
-    keys: &mut Keys,
-    words: &mut Words,
-    handles: &mut Handles,
-    marks: &mut Marks,
-    key: Key,
-    time: u64,
-) -> Told {
-    let mut up = [0u32; ROOM];
-    let mut returned = [0u32; ROOM];
-    let mut nack = [0u16; ROOM];
-    let to = session::octets(key.destination);
-    let from = session::octets(key.source);
-    let answer = table_upkeep::close(
-        keys,
-        words,
-        handles,
-        marks,
-        &mut up,
-        &mut returned,
-        &mut nack,
-        &to,
-        &from,
-        key.priority,
-        time,
-    );
-    Told {
-        kind: 4,
-        answer,
-        up,
-        returned,
-        nack,
-    }
-}
-
-// The line of an answer.
-fn tell(line: &mut Line, start: usize, told: Told) -> usize {
-    if told.kind == 0 {
-        return start;
-    }
-    let answer = told.answer;
-    let up = told.up;
-    let returned = told.returned;
-    let nack = told.nack;
-    let mut at = named(line, start, told.kind);
-    at = text::decimal(line, at, answer.number as u64);
-    at = text::handles(line, at, b" up=", &up, answer.up);
-    at = text::handles(line, at, b" returned=", &returned, answer.returned);
-    at = text::numbers(line, at, b" nack=", &nack, answer.nack);
-    text::field(line, at, b" lost=", answer.lost as u64)
-}
-
-fn named(line: &mut Line, at: usize, kind: u8) -> usize {
-    match kind {
-        1 => text::word(line, at, b" data "),
-        2 => text::word(line, at, b" reminder "),
-        3 => text::word(line, at, b" tick "),
-        _ => text::word(line, at, b" close "),
-    }
-}
-
-// A look at a channel's record changes nothing.
-fn look(
-    keys: &Keys,
-    words: &Words,
-    handles: &Handles,
-    marks: &Marks,
-    line: &mut Line,
-    at: usize,
-    key: Key,
-) -> usize {
-    let mut waits = [0u8; ROOM];
-    let mut values = [0u64; ROOM];
-    let to = session::octets(key.destination);
-    let from = session::octets(key.source);
-    let view = table_calls::look(
-        keys,
-        words,
-        handles,
-        marks,
-        &to,
-        &from,
-        key.priority,
-        &mut waits,
-        &mut values,
-    );
-    show(line, at, view, &waits, &values)
-}
-
-// The line of a look.
-fn show(
-    line: &mut Line,
-    start: usize,
-    view: View,
-    waits: &[u8; ROOM],
-    values: &[u64; ROOM],
-) -> usize {
-    let numbers = [
-        view.number as u64,
-        view.current as u64,
-        view.oldest as u64,
-        view.latest,
-        view.span as u64,
-    ];
-    let names = b" look # current=# oldest=# latest=# span=# cells=";
-    let at = text::fields(line, start, names, &numbers);
-    cells(line, at, view.oldest, view.span, waits, values)
-}
-
-// A cell for each number from the oldest on, with commas between; `-` where there is none.
-fn cells(
-    line: &mut Line,
-    start: usize,
-    oldest: u16,
-    span: usize,
-    waits: &[u8; ROOM],
-    values: &[u64; ROOM],
-) -> usize {
-    if span == 0 {
-        return text::word(line, start, b"-");
-    }
-    let mut at = start;
-    let mut i = 0;
-    let mut number = Seq(oldest);
-    while i < ROOM && i < span {
-        at = cell(line, at, i, number, waits[i], values[i]);
-        number = number.forward(1);
-        i += 1;
-    }
-    at
-}
-
-// A number, with its handle where it waits and since when where it is missing.
-fn cell(line: &mut Line, start: usize, i: usize, number: Seq, waits: u8, value: u64) -> usize {
-    let at = text::entry(line, start, i, number.0 as u64);
-    if waits == 0 {
-        text::field(line, at, b"?", value)
-    } else {
-        text::field(line, at, b":", value)
+impl<'a> fmt::Display for Cells<'a> {
+    fn fmt<W: fmt::Write>(&self, f: &mut fmt::Formatter<W>) -> fmt::Result {
+        if self.waits.is_empty() {
+            return f.write_str("-");
+        }
+        let mut number = self.oldest;
+        for (i, (waits, value)) in self.waits.iter().zip(self.values).enumerate() {
+            if i != 0 {
+                f.write_str(",")?;
+            }
+            let sign = if *waits == 0 { '?' } else { ':' };
+            write!(f, "{}{sign}{value}", number.0)?;
+            number = number.forward(1);
+        }
+        Ok(())
     }
 }

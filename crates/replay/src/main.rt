@@ -7,157 +7,144 @@ mod stream;
 mod text;
 
 use capability::Station;
-use channels::{Handles, Keys, Marks, Words};
-use session::Body;
+use channels::Table;
+use std::alloc::{AllocError, Global};
+use std::io;
 use std::io::{ErrorKind, Read};
 use std::process::ExitCode;
-use stream::Entry;
-use table::{KEYS_IN_ALL, SLOTS_IN_ALL, WORDS_IN_ALL};
+use stream::Stopped;
 
-// What an entry leads to: the next one, with the station as it then is, or the end of the run.
-#[derive(Clone, Copy)]
-enum Turn {
-    Next(Station),
-    Over(End),
-}
-
-// How the run ends.
-#[derive(Clone, Copy)]
+// Why the run ends, well or not: nothing is read behind it.
+#[derive(Drop)]
 enum End {
-    // All that there is to say is said.
-    Said,
-    // Nobody reads what is written any more.
-    Unread,
+    // Every event is answered.
+    Answered,
+    // The session can be followed no further. The last line says why, by this word.
+    Broken(&'static str),
+    // A line could not be written.
+    Unwritten(io::Error),
+    // A line had no memory to stand in.
+    NoMemory,
 }
+
+impl From<Stopped> for End {
+    fn from(stopped: Stopped) -> End {
+        match stopped {
+            Stopped::Cut => End::Broken("cut"),
+            Stopped::Failed => End::Broken("failed"),
+        }
+    }
+}
+
+impl From<AllocError> for End {
+    fn from(_error: AllocError) -> End {
+        End::NoMemory
+    }
+}
+
+impl From<io::Error> for End {
+    fn from(error: io::Error) -> End {
+        End::Unwritten(error)
+    }
+}
+
+// What the session has led to: the table and the station.
+#[derive(Drop)]
+struct Replay {
+    table: Table,
+    station: Station,
+}
+
+impl Replay {
+    // Reads an entry and answers it. Each part answers its own events, and passes the others over.
+    fn turn<R: Print, I: Read>(
+        &mut self,
+        rt: &R,
+        alloc: Global,
+        input: &mut I,
+        buffer: &mut [u8; BUFFER],
+        index: u64,
+    ) -> Result<(), End> {
+        let Some(count) = stream::next(input, buffer)? else {
+            return Err(End::Answered);
+        };
+        let body = &buffer[..count as usize];
+        let Some(event) = session::read(body) else {
+            return Err(End::Broken("unreadable"));
+        };
+        let mut line = format!(in alloc; "{index}")?;
+        self.table.answer(&mut line, event)?;
+        rates::answer(&mut line, event, session::rest(body))?;
+        self.station = stations::answer(&mut line, event, self.station)?;
+        line.push('\n')?;
+        rt.write_all(line.as_bytes())?;
+        Ok(())
+    }
+}
+
+// An entry's body, of at most 65,535 octets, has room in it.
+const BUFFER: usize = 65536;
 
 fn main(rt: HostRuntime) -> ExitCode {
-    let mut keys = [0u64; KEYS_IN_ALL];
-    let mut words = [0u64; WORDS_IN_ALL];
-    let mut handles = [0u32; SLOTS_IN_ALL];
-    let mut marks = [0u8; SLOTS_IN_ALL];
-    let mut body = [0u8; 65536];
+    let alloc = rt.alloc();
     let mut input = rt.stdin();
-    let mut station = Station::fresh(0);
-    let mut index: u64 = 0;
+    let mut buffer = [0u8; BUFFER];
+    let mut replay = Replay {
+        table: Table::EMPTY,
+        station: Station::fresh(0),
+    };
     // A proved loop has to end, and nothing says that a stream does: no run uses so many entries up.
-    while index < u64::MAX {
-        let turn = taken(
-            &rt,
-            &mut input,
-            &mut keys,
-            &mut words,
-            &mut handles,
-            &mut marks,
-            &mut body,
-            station,
-            index,
-        );
-        match turn {
-            Turn::Next(after) => station = after,
-            Turn::Over(end) => return status(end),
+    for index in 0..u64::MAX {
+        if let Err(end) = replay.turn(&rt, alloc, &mut input, &mut buffer, index) {
+            return ended(&rt, alloc, index, end);
         }
-        index += 1;
     }
     ExitCode::SUCCESS
 }
 
+// Says why the run ends, on standard error too where the session is not answered to its end: the program's status is the same, but where nobody reads any
+// more.
+fn ended(rt: &(impl Print + Eprint), alloc: Global, index: u64, end: End) -> ExitCode {
+    match end {
+        End::Answered => ExitCode::SUCCESS,
+        End::Broken(why) => match last(rt, alloc, index, why) {
+            Ok(()) => tell(
+                rt,
+                "replay: the session was not answered to its end; the last line says why\n",
+            ),
+            Err(end) => unanswered(rt, end),
+        },
+        end => unanswered(rt, end),
+    }
+}
+
+// The last line says why the run ends before the session does.
+fn last(rt: &impl Print, alloc: Global, index: u64, why: &str) -> Result<(), End> {
+    let line = format!(in alloc; "{index} {why}\n")?;
+    rt.write_all(line.as_bytes())?;
+    Ok(())
+}
+
+// An answer could not be given.
+fn unanswered(rt: &impl Eprint, end: End) -> ExitCode {
+    match end {
+        End::Unwritten(e) if e.kind() == ErrorKind::BrokenPipe => unread(),
+        End::Unwritten(_) => tell(rt, "replay: the answers could not be written\n"),
+        End::NoMemory => tell(rt, "replay: there is no memory for an answer\n"),
+        End::Answered | End::Broken(_) => ExitCode::SUCCESS,
+    }
+}
+
+// Where standard error takes nothing nobody is left to be told, and where it has no reader any more the run ends by that.
+fn tell(rt: &impl Eprint, what: &str) -> ExitCode {
+    match rt.eprint(what) {
+        Err(e) if e.kind() == ErrorKind::BrokenPipe => unread(),
+        _ => ExitCode::SUCCESS,
+    }
+}
+
 // Where the reader of a pipe is gone, the system ends a program that knows nothing of it, by a signal that a shell tells as 141. This one is told by an error,
 // and ends with that status.
-fn status(end: End) -> ExitCode {
-    match end {
-        End::Said => ExitCode::SUCCESS,
-        End::Unread => ExitCode::from(141),
-    }
-}
-
-// What an entry holds: an event, in a body of so many octets, or the end of the run.
-#[derive(Clone, Copy)]
-enum Heard {
-    Event(Body, u16),
-    Over(End),
-}
-
-// Reads an entry and answers it. Each part answers its own events, and passes the others over.
-fn taken<R: Print + Eprint, I: Read>(
-    rt: &R,
-    input: &mut I,
-    keys: &mut Keys,
-    words: &mut Words,
-    handles: &mut Handles,
-    marks: &mut Marks,
-    body: &mut [u8; 65536],
-    station: Station,
-    index: u64,
-) -> Turn {
-    let heard = hear(rt, input, body, index);
-    let (event, length) = match heard {
-        Heard::Event(event, length) => (event, length),
-        Heard::Over(end) => return Turn::Over(end),
-    };
-    let rest = session::rest(wire::part(body, 0, length as usize));
-    let mut line = text::blank();
-    let mut at = text::decimal(&mut line, 0, index);
-    at = channels::answer(keys, words, handles, marks, &mut line, at, event);
-    at = rates::answer(&mut line, at, event, rest);
-    let step = stations::answer(&mut line, at, event, station);
-    let after = step.station;
-    match sent(rt, &mut line, step.end) {
-        Ok(()) => Turn::Next(after),
-        Err(end) => Turn::Over(end),
-    }
-}
-
-fn hear<R: Print + Eprint, I: Read>(
-    rt: &R,
-    input: &mut I,
-    body: &mut [u8; 65536],
-    index: u64,
-) -> Heard {
-    let entry = stream::next(input, body);
-    match entry {
-        Entry::Body(length) => read(rt, wire::part(body, 0, length as usize), length, index),
-        Entry::Cut => ended(rt, index, b" cut"),
-        Entry::Failed => ended(rt, index, b" failed"),
-        Entry::End => Heard::Over(End::Said),
-    }
-}
-
-fn read(rt: &(impl Print + Eprint), body: &[u8], length: u16, index: u64) -> Heard {
-    let event = session::read(body);
-    if let Body::Unreadable = event {
-        return ended(rt, index, b" unreadable");
-    }
-    Heard::Event(event, length)
-}
-
-// The run ends before the session does. The line says why; and since the program's status is that of a run that answers all of its session, it is told on
-// standard error too, where such a run says nothing.
-fn ended(rt: &(impl Print + Eprint), index: u64, why: &[u8]) -> Heard {
-    let mut line = text::blank();
-    let at = text::decimal(&mut line, 0, index);
-    let end = text::word(&mut line, at, why);
-    if let Err(end) = sent(rt, &mut line, end) {
-        return Heard::Over(end);
-    }
-    Heard::Over(told(
-        rt,
-        "replay: the session was not answered to its end; the last line says why\n",
-    ))
-}
-
-// Sends a line, or says that it could not, and how the run ends by that. Where nobody reads any more, nothing is said.
-fn sent(rt: &(impl Print + Eprint), line: &mut text::Line, end: usize) -> Result<(), End> {
-    match text::send(rt, line, end) {
-        Ok(()) => Ok(()),
-        Err(e) if e.kind() == ErrorKind::BrokenPipe => Err(End::Unread),
-        Err(_) => Err(told(rt, "replay: the answers could not be written\n")),
-    }
-}
-
-// Says why the run ends. Where standard error takes nothing nobody is left to be told, and where it has no reader any more the run ends by that.
-fn told(rt: &impl Eprint, what: &str) -> End {
-    match text::say(rt, what) {
-        Err(e) if e.kind() == ErrorKind::BrokenPipe => End::Unread,
-        _ => End::Said,
-    }
+fn unread() -> ExitCode {
+    ExitCode::from(141)
 }

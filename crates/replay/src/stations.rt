@@ -1,82 +1,77 @@
 // The station's events: each goes to `capability`, and its line tells what the station is to do and the sets as they then are.
-use crate::text;
-use crate::text::Line;
 use capability::{Answer, Frame, Station, Timer};
 use session::Body;
+use std::alloc::AllocError;
+use std::fmt;
 
-// The station as it then is, and where its part of the line ends.
+// The order for the timer, as a line names it.
 #[derive(Clone, Copy)]
-pub(crate) struct Step {
-    pub station: Station,
-    pub end: usize,
+struct Ordered(Timer);
+
+impl fmt::Display for Ordered {
+    fn fmt<W: fmt::Write>(&self, f: &mut fmt::Formatter<W>) -> fmt::Result {
+        f.write_str(match self.0 {
+            Timer::Kept => "kept",
+            Timer::Started => "started",
+            Timer::Cancelled => "cancelled",
+        })
+    }
 }
 
-pub(crate) fn answer(line: &mut Line, at: usize, event: Body, station: Station) -> Step {
+// The station as the event leaves it.
+pub(crate) fn answer(
+    line: &mut String,
+    event: Body,
+    station: Station,
+) -> Result<Station, AllocError> {
     match event {
-        Body::Fresh(default) => fresh(line, at, default),
-        Body::Use(flags) => told(line, at, b" use ", station.use_flags(flags)),
-        Body::Period => told(line, at, b" period ", station.end_period()),
-        Body::Received(opcode, oldest, current, heard) => {
+        Body::Fresh { default } => tell(line, "fresh", 0, kept(Station::fresh(default))),
+        Body::Use { flags } => tell(line, "use", 0, station.use_flags(flags)),
+        Body::Period => tell(line, "period", 0, station.end_period()),
+        Body::Received {
+            opcode,
+            oldest,
+            current,
+            heard,
+        } => {
             let frame = Frame {
                 oldest,
                 current,
                 heard,
             };
-            told(line, at, b" received ", station.receive(opcode, frame))
+            match station.receive(opcode, frame) {
+                Ok(answer) => tell(line, "received", 0, answer),
+                Err(refused) => tell(line, "received", refused.into(), kept(station)),
+            }
         }
-        _ => Step { station, end: at },
+        _ => Ok(station),
     }
 }
 
-// A station that has just begun orders nothing.
-fn fresh(line: &mut Line, at: usize, default: u32) -> Step {
-    let station = Station::fresh(default);
-    let answer = Answer {
-        number: Station::ACCEPTED,
+// What is told of a station that has nothing to do: one that has just begun, and one that refuses a frame.
+fn kept(station: Station) -> Answer {
+    Answer {
         station,
         sends: false,
         frame: station.frame(),
         reported: 0,
         timer: Timer::Kept,
-    };
-    told(line, at, b" fresh ", answer)
+    }
 }
 
-fn told(line: &mut Line, start: usize, event: &[u8], answer: Answer) -> Step {
-    let timer = answer.timer;
+fn tell(line: &mut String, event: &str, number: u8, answer: Answer) -> Result<Station, AllocError> {
+    let sent = if answer.sends { "yes" } else { "no" };
+    let timer = Ordered(answer.timer);
+    let reported = answer.reported;
     let frame = answer.frame;
-    let station = answer.station;
-    let mut at = text::field(line, start, event, answer.number as u64);
-    at = sent(line, at, answer.sends);
-    at = ordered(line, at, timer);
-    let end = sets(line, at, answer.reported, frame);
-    Step { station, end }
-}
-
-fn sets(line: &mut Line, start: usize, reported: u32, frame: Frame) -> usize {
-    let mut at = set(line, start, b" really_new=", reported);
-    at = set(line, at, b" oldest_tx=", frame.oldest);
-    at = set(line, at, b" current_tx=", frame.current);
-    set(line, at, b" current_rx=", frame.heard)
-}
-
-fn sent(line: &mut Line, at: usize, sends: bool) -> usize {
-    if sends {
-        text::word(line, at, b" sent=yes")
-    } else {
-        text::word(line, at, b" sent=no")
-    }
-}
-
-fn ordered(line: &mut Line, at: usize, timer: Timer) -> usize {
-    match timer {
-        Timer::Kept => text::word(line, at, b" timer=kept"),
-        Timer::Started => text::word(line, at, b" timer=started"),
-        Timer::Cancelled => text::word(line, at, b" timer=cancelled"),
-    }
-}
-
-fn set(line: &mut Line, at: usize, name: &[u8], flags: u32) -> usize {
-    let after = text::word(line, at, name);
-    text::hexadecimal(line, after, flags as u64, 8)
+    write!(
+        line,
+        " {event} {number} sent={sent} timer={timer} really_new={reported:08x}"
+    )?;
+    write!(
+        line,
+        " oldest_tx={:08x} current_tx={:08x} current_rx={:08x}",
+        frame.oldest, frame.current, frame.heard
+    )?;
+    Ok(answer.station)
 }

@@ -5,6 +5,7 @@ ghost use Rattle.ring.specs.Ring.{forward, steps, distance, side, is_far, is_ahe
 
 // A place in the ring. Every u16 is one: a value above 4,095 counts modulo 4,096, since going on past the last number comes round to the
 // first. So no call below asks anything of its caller. Whether such a value is accepted at all is settled where it comes in (numbers 2 and 6).
+// It derives no `==`: two values may be one place.
 #[derive(Clone, Copy)]
 pub struct Seq(pub u16);
 
@@ -41,32 +42,33 @@ impl Seq {
     }
 
     // The distance from here to `to`: -2,048 to 2,047. From half a round on, a round is taken off.
+    #[tactic(auto, using(crate::proofs::Signed::lower_distance, crate::proofs::Signed::upper_distance))]
     pub fn distance(self, to: Seq) -> Distance
         ensures { result.0 ≡ distance self.0 to.0 }
     {
-        let n = self.steps(to) as i32;
+        let n = i32::from(self.steps(to));
         if n < Seq::HALF {
             Distance(n)
         } else {
-            Distance(n - Seq::SIZE as i32)
+            Distance(n - i32::from(Seq::SIZE))
         }
     }
 }
 
 impl Distance {
     // Whether this step leads farther than the reach, either way.
+    #[tactic(auto, using(crate::proofs::Signed::far_test))]
     pub fn is_far(self) -> bool
         ensures { result ≡ is_far (side 64 self.0) }
     {
-        let d = self.0;
-        (d < -Seq::REACH) | (Seq::REACH < d)
+        !(-Seq::REACH..=Seq::REACH).contains(&self.0)
     }
 
     // Whether this step leads ahead, by 1 to the reach.
+    #[tactic(auto, using(crate::proofs::Signed::ahead_test))]
     pub fn is_ahead(self) -> bool
         ensures { result ≡ is_ahead (side 64 self.0) }
     {
-        let d = self.0;
-        (0 < d) & (d <= Seq::REACH)
+        (1..=Seq::REACH).contains(&self.0)
     }
 }

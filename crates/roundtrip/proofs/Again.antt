@@ -18,12 +18,14 @@ use Rattle.wire.proofs.Answered.{first_accepts}
 use Rattle.wire.proofs.Joined.{and_left, and_right}
 use Rattle.wire.proofs.Octets.{octets_from, take_octets, six_within, length_six}
 use Rattle.wire.proofs.Within.{le_within}
+use Rattle.std.specs.Prelude.{Result, Ok, Err}
+use Rattle.std.specs.Result.{ResultUnwrapsOrElse}
 use Rattle.rate.specs.declared.Request.{Request}
+use Rattle.rate.specs.declared.refused.Refused.{Refused}
 use Rattle.rate_reader.specs.declared.Reading.{Reading}
-use Rattle.rate.specs.declared.Written.{Written}
 use Rattle.rate.specs.Request.{some_band}
-use Rattle.rate_reader.specs.Reading.{bands_of, count_of, of_band_two, start_of, extent_of, addresses_of, request_of, ss_type_right, ss_version_right, refusals, refused_by, accepted, read_of}
-use Rattle.rate.specs.Writing.{ss_length_for, fixed_part, band_part, header_for, frame_for, absent_band_empty, layout_holds, output_holds, writer_refusals, write_of, output_of, Wrote}
+use Rattle.rate_reader.specs.Reading.{Read, read, bands_of, count_of, of_band_two, start_of, extent_of, addresses_of, request_of, ss_type_right, ss_version_right, refusals, refused_by, accepted, read_of}
+use Rattle.rate.specs.Writing.{Written, ss_length_for, fixed_part, band_part, header_for, frame_for, absent_band_empty, layout_holds, output_holds, writer_refusals, write_of, output_of, Wrote}
 use Rattle.roundtrip.specs.Trip.{WrittenAgain}
 use Rattle.rate_reader.proofs.Accepted.{passed, header_within, lengths_agree_law}
 use Rattle.rate.proofs.Frame.{length_frame}
@@ -179,8 +181,18 @@ from_accepted : (s before after : List ℕ) (w : Written) → first (refusals s)
 unfolding read_of refusals accepted addresses_of start_of extent_of request_of
 from_accepted s before after w none wrote = rw (first_accepts refused_by (accepted s) (refusals s) refl none) at wrote
 
+-- the request that is written again, and the place of its addresses: of a refusal zeros
+pub record Taken (a : Read) (x : Reading) : Type 0 where
+  pub request : x.request ≡ a.request
+  pub start : x.start ≡ a.start
+  pub extent : x.extent ≡ a.extent
+
+pub taken : {zeros : Reading → Type 0} → ((x : Reading) → zeros x → Taken (refused_by 0) x) → (r : Result Reading Refused) (x : Reading) → ResultUnwrapsOrElse r zeros x → Taken (read r) x
+taken blank (Ok y) x e = record { request = ap (λ (z : Reading). z.request) e; start = ap (λ (z : Reading). z.start) e; extent = ap (λ (z : Reading). z.extent) e }
+taken blank (Err d) x e = let t = blank x e in record { request = t.request; start = t.start; extent = t.extent }
+
 -- read, and then written: the contract of both together
-module _ (s before after : List ℕ) (reading : Reading) (octets : List ℕ) (w : Written) where
+module _ (s before after : List ℕ) (reading : Read) (octets : List ℕ) (w : Written) where
   pub written_again : reading ≡ read_of s → octets ≡ part_at s reading.start reading.extent → ss_length s ≤ 255 → Wrote reading.request octets before after w
       → WrittenAgain s before after (record { written = w; reading = reading })
   written_again e part octet wrote =

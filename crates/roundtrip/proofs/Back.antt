@@ -17,14 +17,15 @@ use Rattle.wire.proofs.Answered.{first_accepts, first_refuses}
 use Rattle.wire.proofs.Joined.{and_left, and_right, and_both}
 use Rattle.wire.proofs.Octets.{octet_behind, six_front, six_behind}
 use Rattle.wire.proofs.Within.{le_within}
+use Rattle.std.specs.Prelude.{Result, Ok, Err}
+use Rattle.std.specs.Result.{result_unwrap_or}
 use Rattle.rate.specs.declared.Request.{Request}
-use Rattle.rate_reader.specs.declared.Reading.{Reading}
-use Rattle.rate.specs.declared.Written.{Written}
+use Rattle.rate.specs.declared.refused.Refused.{Refused}
 use Rattle.rate.specs.Request.{opcode_right, some_band, band_one_right, band_two_right, ranks_right, group_addresses}
-use Rattle.rate_reader.specs.Reading.{opcode_of, bands_of, count_of, of_band_two, start_of, extent_of, addresses_of, request_of, length_fits, ss_type_right, ss_length_fits, ss_version_right, lengths_agree, refusals, refused_by, accepted, read_of}
-use Rattle.rate.specs.Writing.{ss_length_for, fixed_part, band_part, header_for, frame_for, absent_band_empty, writer_refusals, Wrote}
+use Rattle.rate_reader.specs.Reading.{Read, opcode_of, bands_of, count_of, of_band_two, start_of, extent_of, addresses_of, request_of, length_fits, ss_type_right, ss_length_fits, ss_version_right, lengths_agree, refusals, refused_by, accepted, read_of}
+use Rattle.rate.specs.Writing.{Written, written, ss_length_for, fixed_part, band_part, header_for, frame_for, absent_band_empty, writer_refusals, Wrote}
 use Rattle.rate.proofs.Frame.{length_bands, length_header}
-use Rattle.rate.proofs.Writable.{may_write, may_layout, some_band_law, Accepted, Refused, wrote_either}
+use Rattle.rate.proofs.Writable.{may_write, may_layout, some_band_law, Accepted, Declined, wrote_either}
 use Rattle.roundtrip.specs.Trip.{asked, ReadBack}
 
 module _ (q : Request) (a : List ℕ) (room : ℕ) (d6 : length q.destination ≡ 6) (s6 : length q.source ≡ 6) (none : first (writer_refusals q a room) ≡ 0) (pad : List ℕ) where
@@ -284,13 +285,18 @@ module _ (q : Request) (a : List ℕ) (room : ℕ) (d6 : length q.destination �
   unfolding frame_for
   frame_addresses = same_addresses q a room d6 s6 none zeros
 
+-- a refusal has written no octets
+pub count_of_written : (w : Result ℕ Refused) → (written w).count ≡ result_unwrap_or w 0
+count_of_written (Ok n) = refl
+count_of_written (Err e) = refl
+
 -- what the writer leaves in its output reads back as what was asked, and where it refuses as a frame of no octets
 module _ (q : Request) (a before after : List ℕ) (r : Written) (d6 : length q.destination ≡ 6) (s6 : length q.source ≡ 6) (wrote : Wrote q a before after r) where
   pub count_within : r.count ≤ length after
   count_within =
       ⊎_elim
       (λ (d : Accepted q a before after r). rw (d.output, d.answer) (simp length-append (omega arith)))
-      (λ (d : Refused q a before after r). rw d.answer (omega arith))
+      (λ (d : Declined q a before after r). rw d.answer (omega arith))
       (wrote_either q a before after r wrote)
 
   pub written_reads_back : read_of (take r.count after) ≡ answered (λ n. refused_by 10) (writer_refusals q a (length before)) (asked q a)
@@ -300,7 +306,7 @@ module _ (q : Request) (a before after : List ℕ) (r : Written) (d6 : length q.
       (λ (d : Accepted q a before after r).
       let frame : take (length (frame_for q a)) after ≡ frame_for q a = rw d.output (take_at (frame_for q a) _ (length (frame_for q a)) refl) in
       rw d.answer (ap read_of frame ∙ (frame_reads_back q a (length before) d6 s6 d.none ∙ sym (first_accepts (λ n. refused_by 10) (asked q a) (writer_refusals q a (length before)) refl d.none))))
-      (λ (d : Refused q a before after r). rw d.answer (sym (first_refuses (λ n. refused_by 10) (asked q a) (writer_refusals q a (length before)) refl d.some)))
+      (λ (d : Declined q a before after r). rw d.answer (sym (first_refuses (λ n. refused_by 10) (asked q a) (writer_refusals q a (length before)) refl d.some)))
       (wrote_either q a before after r wrote)
 
   pub written_addresses : part_at (take r.count after) (answered (λ n. refused_by 10) (writer_refusals q a (length before)) (asked q a)).start (answered (λ n. refused_by 10) (writer_refusals q a (length before)) (asked q a)).extent
@@ -314,7 +320,7 @@ module _ (q : Request) (a before after : List ℕ) (r : Written) (d6 : length q.
       let same : answered (λ n. refused_by 10) rows (asked q a) ≡ asked q a = first_accepts (λ n. refused_by 10) (asked q a) rows refl d.none in
       let all : answered (λ n. []) rows a ≡ a = first_accepts (λ n. []) a rows refl d.none in
       rw (d.answer, frame, same, all) (frame_part q a (length before) d6 s6 d.none))
-      (λ (d : Refused q a before after r).
+      (λ (d : Declined q a before after r).
       let rows = writer_refusals q a (length before) in
       let same : answered (λ n. refused_by 10) rows (asked q a) ≡ refused_by 10 = first_refuses (λ n. refused_by 10) (asked q a) rows refl d.some in
       let none : answered (λ n. []) rows a ≡ [] = first_refuses (λ n. []) a rows refl d.some in
@@ -322,7 +328,7 @@ module _ (q : Request) (a before after : List ℕ) (r : Written) (d6 : length q.
       (wrote_either q a before after r wrote)
 
   -- both together: the contract of a write that is then read
-  pub read_back : (reading : Reading) → reading ≡ read_of (take r.count after) → ReadBack q a before after (record { written = r; reading = reading })
+  pub read_back : (reading : Read) → reading ≡ read_of (take r.count after) → ReadBack q a before after (record { written = r; reading = reading })
   read_back reading e =
       let same = e ∙ written_reads_back in
       record { written = wrote; reading = same; octets = rw same written_addresses }

@@ -11,9 +11,8 @@ use Rattle.wire.specs.ShortFormat.{ethertype_right, next_ethertype_zero}
 use Rattle.rate.specs.Request.{opcode_right, some_band, band_one_right, band_two_right, ranks_right, group_addresses}
 use Rattle.rate_reader.specs.Reading.{of_band_two, start_of, extent_of, addresses_of, request_of, length_fits, ss_type_right, ss_length_fits, ss_version_right, lengths_agree, refusals, accepted, read_of}
 use Rattle.rate.specs.Writing.{ss_length_for, fixed_part, band_part, header_for, frame_for, absent_band_empty, layout_holds, output_holds, writer_refusals, write_of, output_of}
-use Rattle.roundtrip.specs.declared.Trip.{Trip}
 use Rattle.roundtrip.specs.Samples.{ask, one, seven, blank, varied, varied_addresses, varied_frame}
-use Rattle.roundtrip.specs.Trip.{ReadBack, WrittenAgain}
+use Rattle.roundtrip.specs.Trip.{Trip, ReadBack, WrittenAgain}
 
 -- 60 octets are written, and three addresses are read from octet 24 on
 abbrev done : Trip

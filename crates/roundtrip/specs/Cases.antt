@@ -2,22 +2,20 @@
 -- condition with its accepted neighbour, and of two numbers that apply the first in the paper's order. `all_hold` (proofs/Runs) is its one statement.
 use Rattle.std.specs.Prelude.{ℕ, ◌≡◌, List, [], ◌∷◌, ◌++◌, length, take, set, replicate}
 use Rattle.rate.specs.declared.Request.{Request}
-use Rattle.rate_reader.specs.declared.Reading.{Reading}
-use Rattle.rate.specs.declared.Written.{Written}
-use Rattle.rate_reader.specs.Reading.{refused_by, read_of}
-use Rattle.rate.specs.Writing.{write_of, output_of}
+use Rattle.rate_reader.specs.Reading.{Read, refused_by, read_of}
+use Rattle.rate.specs.Writing.{Written, write_of, output_of}
 use Rattle.roundtrip.specs.Trip.{asked}
 use Rattle.roundtrip.specs.Samples.{whole, ask, one, two, broadcast, addressed, six, seven, padded}
 use Rattle.roundtrip.specs.Samples.{two_bands, three_bands, three_addressed, no_band, blank, varied, varied_addresses, varied_frame}
 
 -- a frame and its reading; or a request with its addresses and an output, and the answer with what the output then holds
 pub data Case : Type 0 where
-  reads : List ℕ → Reading → Case
+  reads : List ℕ → Read → Case
   writes : Request → List ℕ → List ℕ → Written → List ℕ → Case
 
 -- what a case comes to: a reading; or the writer's answer, and what the output then holds
 pub data Outcome : Type 0 where
-  read : Reading → Outcome
+  read : Read → Outcome
   written : Written → List ℕ → Outcome
 
 abbrev pub found : Case → Outcome

@@ -5,13 +5,20 @@ use Rattle.wire.specs.Octets.{part_at}
 use Rattle.wire.specs.Refusals.{first, answered}
 use Rattle.wire.specs.ShortFormat.{header_length}
 use Rattle.rate.specs.declared.Request.{Request}
-use Rattle.rate_reader.specs.declared.Reading.{Reading}
-use Rattle.rate_reader.specs.Reading.{bands_of, refusals, refused_by, read_of}
-use Rattle.rate.specs.Writing.{writer_refusals, Wrote}
-use Rattle.roundtrip.specs.declared.Trip.{Trip}
+use Rattle.rate_reader.specs.Reading.{Read, bands_of, refusals, refused_by, read, read_of}
+use Rattle.rate.specs.Writing.{Written, written, writer_refusals, Wrote}
+use Rattle.roundtrip.specs.declared.Trip as results
+
+-- what the writer and the reader answered, as numbers and values
+pub record Trip : Type 0 where
+  pub written : Written
+  pub reading : Read
+
+abbrev pub trip : results.Trip → Trip
+trip t = record { written = written t.written; reading = read t.reading }
 
 -- the reading of what was written for a request
-abbrev pub asked : Request → List ℕ → Reading
+abbrev pub asked : Request → List ℕ → Read
 asked q a = record { number = 0; request = q; addresses = length a / 6; start = 20 + 2 * q.bands; extent = length a }
 
 -- written, then read: every field, and the addresses in the octets that the reading points to. Where the writer refuses, no octets are written, and none are

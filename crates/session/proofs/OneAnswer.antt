@@ -5,11 +5,12 @@ use mathlib.Core.List.{List}
 use Prim.Native.Nat.{ℕ}
 use lib.Dec.{eqb}
 use lib.ListN.{get_or}
-use Rattle.session.specs.Bodies.{kind_of, values_of, Reads}
+use Rattle.std.specs.Prelude.{Option, Some, None}
+use Rattle.session.specs.Bodies.{kind_read, values_read, Reads}
 use Rattle.session.specs.declared.Key.{Key}
 use Rattle.session.specs.declared.Request.{Request}
 use Rattle.session.specs.declared.Body.{Body}
-use Rattle.session.specs.declared.Body.TheVariants.{Data, Reminder, Tick, Close, Look, Fresh, Use, Period, Received, Read, Write, Unreadable}
+use Rattle.session.specs.declared.Body.TheVariants.{Data, Reminder, Tick, Close, Look, Fresh, Use, Period, Received, Read, Write}
 
 module _ (vs : List ℕ) where
   abbrev value : ℕ → ℕ
@@ -32,33 +33,33 @@ module _ (vs : List ℕ) where
       }
 
   -- the answer of a kind and these values
-  abbrev answer_by : ℕ → Body
+  abbrev answer_by : ℕ → Option Body
   answer_by k =
-      cond (eqb k 1) (Data key_by (value 3) (value 4) (value 5))
-      (cond (eqb k 2) (Reminder key_by (value 3) (value 4))
-      (cond (eqb k 3) (Tick key_by (value 3))
-      (cond (eqb k 4) (Close key_by (value 3))
-      (cond (eqb k 5) (Look key_by)
-      (cond (eqb k 6) (Fresh (value 0))
-      (cond (eqb k 7) (Use (value 0))
-      (cond (eqb k 8) Period
-      (cond (eqb k 9) (Received (value 0) (value 1) (value 2) (value 3))
-      (cond (eqb k 10) Read (cond (eqb k 11) (Write request_by (value 8)) Unreadable))))))))))
+      cond (eqb k 1) (Some (Data key_by (value 3) (value 4) (value 5)))
+      (cond (eqb k 2) (Some (Reminder key_by (value 3) (value 4)))
+      (cond (eqb k 3) (Some (Tick key_by (value 3)))
+      (cond (eqb k 4) (Some (Close key_by (value 3)))
+      (cond (eqb k 5) (Some (Look key_by))
+      (cond (eqb k 6) (Some (Fresh (value 0)))
+      (cond (eqb k 7) (Some (Use (value 0)))
+      (cond (eqb k 8) (Some Period)
+      (cond (eqb k 9) (Some (Received (value 0) (value 1) (value 2) (value 3)))
+      (cond (eqb k 10) (Some Read) (cond (eqb k 11) (Some (Write request_by (value 8))) None))))))))))
 
-given_back : (r : Body) → answer_by (values_of r) (kind_of r) ≡ r
-given_back (Data k t n h) = refl
-given_back (Reminder k t n) = refl
-given_back (Tick k t) = refl
-given_back (Close k t) = refl
-given_back (Look k) = refl
-given_back (Fresh d) = refl
-given_back (Use f) = refl
-given_back Period = refl
-given_back (Received o a b c) = refl
-given_back Read = refl
-given_back (Write q r) = refl
-given_back Unreadable = refl
+given_back : (r : Option Body) → answer_by (values_read r) (kind_read r) ≡ r
+given_back (Some (Data k t n h)) = refl
+given_back (Some (Reminder k t n)) = refl
+given_back (Some (Tick k t)) = refl
+given_back (Some (Close k t)) = refl
+given_back (Some (Look k)) = refl
+given_back (Some (Fresh d)) = refl
+given_back (Some (Use f)) = refl
+given_back (Some Period) = refl
+given_back (Some (Received o a b c)) = refl
+given_back (Some Read) = refl
+given_back (Some (Write q r)) = refl
+given_back None = refl
 
-pub one_answer : (s : List ℕ) (r r' : Body) → Reads s r → Reads s r' → r ≡ r'
+pub one_answer : (s : List ℕ) (r r' : Option Body) → Reads s r → Reads s r' → r ≡ r'
 one_answer s r r' p q =
     sym (given_back r) ∙ (ap₂ answer_by (p.values ∙ sym q.values) (p.kind ∙ sym q.kind) ∙ given_back r')

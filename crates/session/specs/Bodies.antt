@@ -1,11 +1,11 @@
 -- What the reader's answer stands for: kind and values of each case (document 01, 'Where to use each form', on answers that are enums).
-use Rattle.std.specs.Prelude.{ℕ, ◌≡◌, List, [], ◌∷◌, ◌++◌}
+use Rattle.std.specs.Prelude.{ℕ, ◌≡◌, List, [], ◌∷◌, ◌++◌, Option, Some, None}
 use Rattle.session.specs.Numbers.{number_at}
 use Rattle.session.specs.Layout.{said}
 use Rattle.session.specs.declared.Key.{Key}
 use Rattle.session.specs.declared.Request.{Request}
 use Rattle.session.specs.declared.Body.{Body}
-use Rattle.session.specs.declared.Body.TheVariants.{Data, Reminder, Tick, Close, Look, Fresh, Use, Period, Received, Read, Write, Unreadable}
+use Rattle.session.specs.declared.Body.TheVariants.{Data, Reminder, Tick, Close, Look, Fresh, Use, Period, Received, Read, Write}
 
 -- a key and a request as they stand in a body
 abbrev pub key_at : List ℕ → Key
@@ -42,7 +42,6 @@ kind_of Period = 8
 kind_of (Received o a b c) = 9
 kind_of Read = 10
 kind_of (Write q r) = 11
-kind_of Unreadable = 0
 
 abbrev pub values_of : Body → List ℕ
 values_of (Data k t n h) = key_values k ++ (t ∷ n ∷ h ∷ [])
@@ -56,9 +55,17 @@ values_of Period = []
 values_of (Received o a b c) = o ∷ a ∷ b ∷ c ∷ []
 values_of Read = []
 values_of (Write q r) = request_values q ++ (r ∷ [])
-values_of Unreadable = []
+
+-- what an answer says: where there is none kind 0, and no values
+abbrev pub kind_read : Option Body → ℕ
+kind_read None = 0
+kind_read (Some b) = kind_of b
+
+abbrev pub values_read : Option Body → List ℕ
+values_read None = []
+values_read (Some b) = values_of b
 
 -- the answer has the kind and the values that the body says
-pub record Reads (s : List ℕ) (r : Body) : Type 0 where
-  pub kind : kind_of r ≡ (said s).kind
-  pub values : values_of r ≡ (said s).values
+pub record Reads (s : List ℕ) (r : Option Body) : Type 0 where
+  pub kind : kind_read r ≡ (said s).kind
+  pub values : values_read r ≡ (said s).values

@@ -1,3 +1,4 @@
 pub mod Numbers
 pub mod Layout
+pub mod Kinds
 pub mod Bodies

@@ -1,56 +1,22 @@
 // Big-endian numbers in octets, at any place of a slice: read, and for an address written again. Past the end every octet counts as 0.
-ghost use Rattle.std.specs.Prelude.{◌≡◌};
+ghost use Rattle.std.specs.Prelude.{◌≡◌, ◌^◌, ◌<◌, ◌≤◌};
 ghost use Rattle.session.specs.Numbers.{number_at, spelled};
 
 use wire::octet;
 
-#[tactic(auto, using(crate::proofs::Spelling::number_one))]
-pub(crate) fn one(s: &[u8], at: usize) -> u8
-    ensures { result ≡ number_at s.now at 1 }
+// The number of N octets from a place on.
+#[tactic(auto, using(crate::proofs::Spelling::number_more, crate::proofs::Spelling::seven_most), unfolding(crate::specs::Numbers::number_at))]
+pub(crate) fn number_at<const N: usize>(s: &[u8], at: usize) -> u64
+    requires width { N ≤ 8 }
+    requires place { at < 2 ^ 16 }
+    ensures value { result ≡ number_at s.now at N }
+    ensures fits { result < 256 ^ N }
 {
-    octet(s, at)
-}
-
-pub(crate) fn two(s: &[u8], at: usize) -> u16
-    ensures { result ≡ number_at s.now at 2 }
-{
-    if s.len() <= at {
-        return 0;
+    let mut number = 0;
+    for i in 0..N {
+        number = number * 0x100 + u64::from(octet(s, at + i));
     }
-    let next = at + 1;
-    (one(s, at) as u16) * 0x100 + (one(s, next) as u16)
-}
-
-pub(crate) fn four(s: &[u8], at: usize) -> u32
-    ensures { result ≡ number_at s.now at 4 }
-{
-    if s.len() <= at {
-        return 0;
-    }
-    let next = at + 2;
-    (two(s, at) as u32) * 0x1_0000 + (two(s, next) as u32)
-}
-
-// An address.
-pub(crate) fn six(s: &[u8], at: usize) -> u64
-    ensures { result ≡ number_at s.now at 6 }
-{
-    if s.len() <= at {
-        return 0;
-    }
-    let next = at + 2;
-    (two(s, at) as u64) * 0x1_0000_0000 + (four(s, next) as u64)
-}
-
-// A time.
-pub(crate) fn eight(s: &[u8], at: usize) -> u64
-    ensures { result ≡ number_at s.now at 8 }
-{
-    if s.len() <= at {
-        return 0;
-    }
-    let next = at + 4;
-    (four(s, at) as u64) * 0x1_0000_0000 + (four(s, next) as u64)
+    number
 }
 
 // The six octets of an address; what a number has above 48 bits is left out.
@@ -58,17 +24,6 @@ pub(crate) fn eight(s: &[u8], at: usize) -> u64
 pub fn octets(address: u64) -> [u8; 6]
     ensures { result ≡ spelled 6 address }
 {
-    let to_fifth = address / 0x100;
-    let to_fourth = to_fifth / 0x100;
-    let to_third = to_fourth / 0x100;
-    let to_second = to_third / 0x100;
-    let to_first = to_second / 0x100;
-    [
-        (to_first % 0x100) as u8,
-        (to_second % 0x100) as u8,
-        (to_third % 0x100) as u8,
-        (to_fourth % 0x100) as u8,
-        (to_fifth % 0x100) as u8,
-        (address % 0x100) as u8,
-    ]
+    let [_, _, first, second, third, fourth, fifth, sixth] = address.to_be_bytes();
+    [first, second, third, fourth, fifth, sixth]
 }

@@ -1,11 +1,10 @@
 #![tactic(auto)]
 // Where a place keeps what (specs/Slots.antt, docs/LAYOUT.md): every other crate asks here, by the number and not by the slot. Each function takes any
-// input: what is not there reads as 0, and is not written.
+// input: what is not there reads as 0, and is not written. The host lends the parts as slices of its own, so they lie beside each other and are no one struct.
 ghost use Rattle.std.specs.Prelude.{◌≡◌, get_or, set};
 ghost use Rattle.slots.specs.Slots.{slot_of, place_sized, current_in, oldest_in, latest_in, is_missing, time_at, handle_at, with_head, with_latest, with_time, with_handle, with_missing, with_waiting};
 
 use ring::Seq;
-use wire::octet;
 
 // How many slots a place has, with a time, a handle and a mark each.
 pub const SLOTS: usize = 32;
@@ -21,6 +20,7 @@ const LATEST: usize = 2;
 
 const TIMES: usize = 3;
 
+// A mark is an octet of the table that the host lends (docs/LAYOUT.md), and any but 0 waits: so it is no enum.
 const MISSING: u8 = 0;
 
 const WAITS: u8 = 1;
@@ -36,51 +36,51 @@ pub fn is_place(words: usize, handles: usize, marks: usize) -> bool
 fn slot(n: Seq) -> usize
     ensures { result ≡ slot_of n.0 }
 {
-    (n.0 % SLOTS as u16) as usize
+    usize::from(n.0) % SLOTS
 }
 
-// A word of a place.
-fn word(words: &[u64], i: usize) -> u64
-    ensures { result ≡ get_or words.now i 0 }
+// What a part of a place has at i, where it reaches so far.
+fn entry<T: Copy>(part: &[T], i: usize, absent: T) -> T
+    ensures { result ≡ get_or part.now i absent }
 {
-    if i < words.len() { words[i] } else { 0 }
+    part.get(i).copied().unwrap_or(absent)
 }
 
 // C, which may be any word: whether it is a number is for others to test.
 pub fn current(words: &[u64]) -> u64
     ensures { result ≡ current_in words.now }
 {
-    word(words, CURRENT)
+    entry(words, CURRENT, 0)
 }
 
 // M, which may be any word too.
 pub fn oldest(words: &[u64]) -> u64
     ensures { result ≡ oldest_in words.now }
 {
-    word(words, OLDEST)
+    entry(words, OLDEST, 0)
 }
 
 // The latest time.
 pub fn latest(words: &[u64]) -> u64
     ensures { result ≡ latest_in words.now }
 {
-    word(words, LATEST)
+    entry(words, LATEST, 0)
 }
 
 // Whether number n is missing; else it waits.
 pub fn is_missing(marks: &[u8], n: Seq) -> bool
     ensures { result ≡ is_missing marks.now (slot_of n.0) }
 {
-    octet(marks, slot(n)) == MISSING
+    entry(marks, slot(n), 0) == MISSING
 }
 
 // Since when number n is missing. The times are lent on by themselves: with the sum of both offsets the compiler works the slot out twice where its
-// mark was read before.
+// mark was read before. And by `get`, with a closure on what it finds, an address takes an instruction more.
 pub fn time_of(words: &[u64], n: Seq) -> u64
     ensures { result ≡ time_at words.now (slot_of n.0) }
 {
     if TIMES <= words.len() {
-        word(&words[TIMES..], slot(n))
+        entry(&words[TIMES..], slot(n), 0)
     } else {
         0
     }
@@ -90,31 +90,15 @@ pub fn time_of(words: &[u64], n: Seq) -> u64
 pub fn handle_of(handles: &[u32], n: Seq) -> u32
     ensures { result ≡ handle_at handles.now (slot_of n.0) }
 {
-    let j = slot(n);
-    if j < handles.len() { handles[j] } else { 0 }
+    entry(handles, slot(n), 0)
 }
 
-fn set_word(words: &mut [u64], i: usize, value: u64)
-    ensures { words.new ≡ set words.old i value }
+// A part of a place anew at i, where it reaches so far. (`get_mut` says nothing of what the slice ends as.)
+fn set<T: Copy>(part: &mut [T], i: usize, value: T)
+    ensures { part.new ≡ set part.old i value }
 {
-    if i < words.len() {
-        words[i] = value;
-    }
-}
-
-fn set_handle(handles: &mut [u32], j: usize, handle: u32)
-    ensures { handles.new ≡ set handles.old j handle }
-{
-    if j < handles.len() {
-        handles[j] = handle;
-    }
-}
-
-fn set_mark(marks: &mut [u8], j: usize, mark: u8)
-    ensures { marks.new ≡ set marks.old j mark }
-{
-    if j < marks.len() {
-        marks[j] = mark;
+    if i < part.len() {
+        part[i] = value;
     }
 }
 
@@ -122,16 +106,16 @@ fn set_mark(marks: &mut [u8], j: usize, mark: u8)
 pub fn set_head(words: &mut [u64], current: Seq, oldest: Seq, latest: u64)
     ensures { words.new ≡ with_head words.old current.0 oldest.0 latest }
 {
-    set_word(words, CURRENT, current.0 as u64);
-    set_word(words, OLDEST, oldest.0 as u64);
-    set_word(words, LATEST, latest);
+    set(words, CURRENT, u64::from(current.0));
+    set(words, OLDEST, u64::from(oldest.0));
+    set(words, LATEST, latest);
 }
 
 // The latest time anew.
 pub fn set_latest(words: &mut [u64], time: u64)
     ensures { words.new ≡ with_latest words.old time }
 {
-    set_word(words, LATEST, time);
+    set(words, LATEST, time);
 }
 
 // Number n is missing since `time`.
@@ -139,8 +123,8 @@ pub fn set_missing(words: &mut [u64], marks: &mut [u8], n: Seq, time: u64)
     ensures { (words.new ≡ with_time words.old (slot_of n.0) time) × (marks.new ≡ with_missing marks.old (slot_of n.0)) }
 {
     let j = slot(n);
-    set_word(words, TIMES + j, time);
-    set_mark(marks, j, MISSING);
+    set(words, TIMES + j, time);
+    set(marks, j, MISSING);
 }
 
 // Number n waits with its handle.
@@ -148,6 +132,6 @@ pub fn set_waiting(handles: &mut [u32], marks: &mut [u8], n: Seq, handle: u32)
     ensures { (handles.new ≡ with_handle handles.old (slot_of n.0) handle) × (marks.new ≡ with_waiting marks.old (slot_of n.0)) }
 {
     let j = slot(n);
-    set_handle(handles, j, handle);
-    set_mark(marks, j, WAITS);
+    set(handles, j, handle);
+    set(marks, j, WAITS);
 }

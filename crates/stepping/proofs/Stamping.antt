@@ -3,15 +3,15 @@
 use Prim.Native.Nat.{ℕ, zero, suc, ◌+◌, ◌-◌, ◌≤◌, ◌<◌}
 use mathlib.Core.Path.{◌≡◌, refl, ap, sym, ◌∙◌}
 use mathlib.Core.Bool.{Bool, true, false}
-use mathlib.Core.List.{List, [], ◌∷◌}
+use mathlib.Core.List.{List, ◌∷◌}
 use native.Mathlib.Omega.{arith}
 use lib.Dec.{eqb}
-use lib.ListN.{length, set, length-set}
+use lib.ListN.{length, set}
 use lib.Seq.{sets}
 use borrow.Author.Tests.{eqb-true, eqb-false}
 use Rattle.ring.specs.Ring.{next, rising}
 use Rattle.slots.specs.Slots.{slot_of, with_time, with_missing}
-use Rattle.slots.proofs.Stores.{Stores, time_stores, mark_stores}
+use Rattle.slots.proofs.Stores.{Stores}
 use Rattle.stepping.specs.Step.{stamped, times_missing, marks_missing, Missed}
 use Rattle.record.proofs.Rounds.{slot_none, slot_next}
 use Rattle.record.proofs.Laying.{sets_more}
@@ -50,54 +50,44 @@ module _ {A : Type 0} {put : List ℕ → ℕ → List ℕ} {get : List ℕ → 
       stamped_out (put l (slot_of m)) (next m) n i (λ q p e. h (suc q) (omega arith) (sym (slot_next m q) ∙ e))
       ∙ stores.beside l (slot_of m) i (λ e. h 0 (omega arith) (sym (slot_none m) ∙ sym e))
 
+-- A loop over n numbers, at its j-th: what is left of them there.
 module _ (put : List ℕ → ℕ → List ℕ) where
   stamped_none : (l : List ℕ) (m n : ℕ) → n ≡ 0 → stamped put l m n ≡ l
   unfolding stamped
   stamped_none l m n e = ap (λ (n : ℕ). stamped put l m n) e
 
-  stamped_suc : (l : List ℕ) (m n : ℕ) → 0 < n → stamped put l m n ≡ stamped put (put l (slot_of m)) (next m) (n - 1)
+  stamped_rest : (l : List ℕ) (m n j : ℕ) → j < n → stamped put l m (n - j) ≡ stamped put (put l (slot_of m)) (next m) (n - (j + 1))
   unfolding stamped
-  stamped_suc l m n p = ap (λ (n : ℕ). stamped put l m n) (let e : n ≡ suc (n - 1) = omega arith in e)
+  stamped_rest l m n j p = ap (λ (n : ℕ). stamped put l m n) (let e : n - j ≡ suc (n - (j + 1)) = omega arith in e)
 
-rising_none : (m n : ℕ) → n ≡ 0 → rising m n ≡ []
-rising_none m n e = ap (rising m) e
+rising_rest : (m n j : ℕ) → j < n → rising m (n - j) ≡ m ∷ rising (next m) (n - (j + 1))
+rising_rest m n j p = ap (rising m) (let e : n - j ≡ suc (n - (j + 1)) = omega arith in e)
 
-rising_suc : (m n : ℕ) → 0 < n → rising m n ≡ m ∷ rising (next m) (n - 1)
-rising_suc m n p = ap (rising m) (let e : n ≡ suc (n - 1) = omega arith in e)
+-- What the loop keeps at its j-th number i: what is still to be put from here is what was to be put from the start.
+pub record Misses (m n time : ℕ) (w k q w' k' q' : List ℕ) (i j : ℕ) : Type 0 where
+  pub words : times_missing w' i (n - j) time ≡ times_missing w m n time
+  pub marks : marks_missing k' i (n - j) ≡ marks_missing k m n
+  pub nack : sets q' j (rising i (n - j)) ≡ sets q 0 (rising m n)
 
--- What the loop keeps: what is still to be put from here is what was to be put from the start.
-pub record Misses (m n time : ℕ) (w k q w' k' q' : List ℕ) (i left to : ℕ) : Type 0 where
-  pub room : to + left ≤ length q'
-  pub count : to + left ≡ n
-  pub words_sized : length w' ≡ length w
-  pub marks_sized : length k' ≡ length k
-  pub nack_sized : length q' ≡ length q
-  pub words : times_missing w' i left time ≡ times_missing w m n time
-  pub marks : marks_missing k' i left ≡ marks_missing k m n
-  pub nack : sets q' to (rising i left) ≡ sets q 0 (rising m n)
+pub misses_start : (m n time : ℕ) (w k q : List ℕ) → Misses m n time w k q w k q m 0
+misses_start m n time w k q = let all : n - 0 ≡ n = omega arith in record { words = rw all refl; marks = rw all refl; nack = rw all refl }
 
-module _ {m n time : ℕ} {w k q w' k' q' : List ℕ} {i left to : ℕ} (keeps : Misses m n time w k q w' k' q' i left to) where
-  pub misses_end : left ≡ 0 → (to ≡ n) × Missed m n time w k q w' k' q'
-  misses_end z = (
-    omega (arith, keeps.count),
-    record {
-      words = sym (stamped_none (λ w j. with_time w j time) w' i left z) ∙ keeps.words;
-      marks = sym (stamped_none with_missing k' i left z) ∙ keeps.marks;
-      nack = sym (ap (sets q' to) (rising_none i left z)) ∙ keeps.nack;
-    },
-  )
+module _ {m n time : ℕ} {w k q w' k' q' : List ℕ} {i j : ℕ} (keeps : Misses m n time w k q w' k' q' i j) where
+  pub misses_end : n ≤ j → Missed m n time w k q w' k' q'
+  misses_end z =
+      let none : n - j ≡ 0 = omega arith in
+      record {
+        words = sym (stamped_none (λ w j. with_time w j time) w' i (n - j) none) ∙ keeps.words;
+        marks = sym (stamped_none with_missing k' i (n - j) none) ∙ keeps.marks;
+        nack = sym (ap (λ l. sets q' j (rising i l)) none) ∙ keeps.nack;
+      }
 
-  pub misses_turn : {i' : ℕ} → 0 < left → i' ≡ next i
-      → Misses m n time w k q (with_time w' (slot_of i) time) (with_missing k' (slot_of i)) (set q' to i) i' (left - 1) (to + 1)
+  pub misses_turn : {i' : ℕ} → j < n → i' ≡ next i
+      → Misses m n time w k q (with_time w' (slot_of i) time) (with_missing k' (slot_of i)) (set q' j i) i' (j + 1)
   misses_turn {i'} some step =
       rw step
       (record {
-        room = simp length-set (omega (arith, keeps.room));
-        count = omega (arith, keeps.count);
-        words_sized = (time_stores time).sized w' (slot_of i) ∙ keeps.words_sized;
-        marks_sized = mark_stores.sized k' (slot_of i) ∙ keeps.marks_sized;
-        nack_sized = length-set q' to i ∙ keeps.nack_sized;
-        words = sym (stamped_suc (λ w j. with_time w j time) w' i left some) ∙ keeps.words;
-        marks = sym (stamped_suc with_missing k' i left some) ∙ keeps.marks;
-        nack = sets_more q' to i (rising (next i) (left - 1)) ∙ ap (sets q' to) (sym (rising_suc i left some)) ∙ keeps.nack;
+        words = sym (stamped_rest (λ w j. with_time w j time) w' i n j some) ∙ keeps.words;
+        marks = sym (stamped_rest with_missing k' i n j some) ∙ keeps.marks;
+        nack = sets_more q' j i (rising (next i) (n - (j + 1))) ∙ ap (sets q' j) (sym (rising_rest i n j some)) ∙ keeps.nack;
       })

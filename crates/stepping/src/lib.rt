@@ -4,11 +4,11 @@
 ghost use Rattle.std.specs.Prelude.{◌≡◌, ◌≤◌, length};
 ghost use Rattle.ring.specs.Ring.{steps};
 ghost use Rattle.record.specs.Moving.{span_in};
-ghost use Rattle.record.specs.Place.{place_lent};
+ghost use Rattle.record.specs.Lengths.{lent_by};
 ghost use Rattle.stepping.specs.Step.{Missed, can_widen, unmoved, Widens};
 
 use larq::WINDOW;
-use record::{Grown, Record, hand, lent_enough};
+use record::{Grown, Lengths, Record, hand};
 use ring::Seq;
 use slots::set_missing;
 
@@ -36,58 +36,37 @@ pub struct Passed {
     pub had: Counts,
 }
 
-// Makes n numbers from `from` on missing at this time, and asks for them: how many are asked for.
-fn miss(
-    words: &mut [u64],
-    marks: &mut [u8],
-    nack: &mut [u16],
-    from: Seq,
-    n: u16,
-    time: u64,
-) -> usize
+// Makes n numbers from `from` on missing at this time, and asks for them. The number itself goes along: the first is asked for as it is, and may be
+// any u16.
+// Parts and buffers stay parameters, as in record.
+fn miss(words: &mut [u64], marks: &mut [u8], nack: &mut [u16], from: Seq, n: u16, time: u64)
     requires { n ≤ length nack.old }
-    ensures { (result ≡ n) × Missed from.0 n time words.old marks.old nack.old words.new marks.new nack.new }
+    ensures { Missed from.0 n time words.old marks.old nack.old words.new marks.new nack.new }
 {
     let mut i = from;
-    let mut left = n;
-    let mut to: usize = 0;
-    while 0 < left {
+    for k in 0..n {
         set_missing(words, marks, i, time);
-        nack[to] = i.0;
-        to += 1;
+        nack[k as usize] = i.0;
         i = i.forward(1);
-        left -= 1;
     }
-    to
 }
 
 // Whether parts and buffers are as long as they should be, the window is not too wide, and C goes on by `made` numbers at least.
-fn can_widen(
-    r: Record,
-    words: usize,
-    handles: usize,
-    marks: usize,
-    up: usize,
-    nack: usize,
-    s: Seq,
-    made: u16,
-) -> bool
-    ensures { result ≡ can_widen (place_lent words handles marks up up nack) (span_in r) made (steps r.current.0 s.0) }
+fn can_widen(r: Record, lent: Lengths, s: Seq, made: u16) -> bool
+    ensures { result ≡ can_widen (lent_by lent) (span_in r) made (steps r.current.0 s.0) }
 {
-    let c = r.current;
-    lent_enough(words, handles, marks, up, up, nack) & ((r.span() <= WINDOW) & (made <= c.steps(s)))
+    lent.lent_enough() & ((r.span() <= WINDOW) & (made <= r.current.steps(s)))
 }
 
 // No step: nothing is passed, and nothing becomes missing.
 fn unmoved(r: Record) -> Grown
     ensures { result ≡ unmoved r }
 {
-    let c = r.current;
     Grown {
         kept: r,
         over: 0,
         old: 0,
-        first: c,
+        first: r.current,
         count: 0,
     }
 }
@@ -108,16 +87,8 @@ pub fn widened(
     ensures { Widens r s.0 made time words.old handles.now marks.old up.old nack.old
         words.new marks.new up.new nack.new result }
 {
-    if !can_widen(
-        r,
-        words.len(),
-        handles.len(),
-        marks.len(),
-        up.len(),
-        nack.len(),
-        s,
-        made,
-    ) {
+    let lent = Lengths::of(words, handles, marks, up, up, nack);
+    if !can_widen(r, lent, s, made) {
         return Passed {
             grown: unmoved(r),
             had: Counts::NONE,
@@ -125,11 +96,11 @@ pub fn widened(
     }
     let g = r.grown(s, made, time);
     let passed = hand(handles, marks, r.oldest, g.old, up);
-    let asked = miss(words, marks, nack, g.first, g.count, time);
+    miss(words, marks, nack, g.first, g.count, time);
     let had = Counts {
         up: passed,
-        nack: asked,
+        nack: g.count as usize,
         lost: g.over - passed,
     };
-    Passed { grown: g, had: had }
+    Passed { grown: g, had }
 }

@@ -5,7 +5,6 @@ use mathlib.Core.Path.{◌≡◌, refl, ap, sym, ◌∙◌}
 use mathlib.Core.Logic.{◌⊎◌, inl, inr, ⊎_elim}
 use mathlib.Core.List.{List, [], ◌∷◌, ◌++◌}
 use native.Mathlib.Omega.{arith}
-use native.Mathlib.Decide.{dec_lt}
 use native.Mathlib.Nat.{mul-suc, mul-le-mul_left}
 use lib.ListN.{length, get_or, set, take, drop, length-drop}
 use lib.Seq.{take-nil, take_at, drop_at, take-take, drop-drop, length-take-le, get_or-take, get_or-drop, take-set-le, drop-set-lt}
@@ -65,11 +64,7 @@ part_behind n j a l m h e =
 
 -- two places' parts lie apart
 pub order : (i j : ℕ) → (j ≡ i → ⊥) → (j < i) ⊎ (i < j)
-order i j ne = go (dec_lt j i)
-  where
-    go : Dec (j < i) → (j < i) ⊎ (i < j)
-    go (yes h) = inl h
-    go (no h) = inr (omega arith)
+order i j ne = grind arith
 
 ends : (n i j : ℕ) → j < i → n * j + n ≤ n * i
 ends n i j h = rw (mul-suc n j) at (mul-le-mul_left n h)
@@ -103,7 +98,7 @@ put_part n i l = ap (put n i l) (sym (lent_part n i l)) ∙ put_same (n * i) (n 
 
 -- two neighbouring stores
 pub set_pair : (m : ℕ) (l : List ℕ) (a b : ℕ) → m + 2 ≤ length l → take 2 (drop m (set (set l m a) (suc m) b)) ≡ a ∷ (b ∷ [])
-set_pair m [] a b h = absurd (let z : ⊥ = omega arith in z)
-set_pair zero (x ∷ []) a b h = absurd (let z : ⊥ = omega arith in z)
+set_pair m [] a b h = grind arith
+set_pair zero (x ∷ []) a b h = grind arith
 set_pair zero (x ∷ (y ∷ l)) a b h = refl
 set_pair (suc m) (x ∷ l) a b h = set_pair m l a b (omega arith)

@@ -5,16 +5,14 @@ use mathlib.Core.Path.{◌≡◌, refl, ap, ap₂, sym, ◌∙◌}
 use mathlib.Core.Bool.{Bool, true, false, cond}
 use mathlib.Core.List.{List, [], ◌∷◌}
 use native.Mathlib.Omega.{arith}
-use borrow.Author.Tests.{eq-eqb, ne_eqb}
+use Rattle.std.specs.Prelude.{Option, Some, None}
 use lib.Dec.{eqb}
 use Rattle.larq.specs.Channel.{Channel}
-use Rattle.larq.specs.Table.{Key, same_key, Place, free, held, Table, channels, is_open, room, put_open, put_free}
+use Rattle.larq.specs.Table.{Key, Place, free, held, Table, channels, is_open, room, put_open, put_free}
 use Rattle.table.specs.First.{first_from}
 use Rattle.table.specs.Table.{places_from}
 use Rattle.table.specs.Addressed.{is_of, is_free}
 use Rattle.table.specs.Way.{is_found}
-use Rattle.table.specs.declared.lookup.Found.{Found}
-use Rattle.table.specs.declared.lookup.Found.TheVariants.{At, Nothing}
 
 -- what the place says that a walk finds: it is one of those walked over, and it passes
 pub record Finds (test : ℕ → Bool) (i n j : ℕ) : Type 0 where
@@ -22,18 +20,10 @@ pub record Finds (test : ℕ → Bool) (i n j : ℕ) : Type 0 where
   pub high : j < i + n
   pub passes : test j ≡ true
 
-pub finds : (test : ℕ → Bool) (n i j : ℕ) → first_from test i n ≡ At j → Finds test i n j
+pub finds : (test : ℕ → Bool) (n i j : ℕ) → first_from test i n ≡ Some j → Finds test i n j
 unfolding first_from
-finds test zero i j e = absurd (let z : ◌≡◌ {A = ℕ} 0 1 = cc in let y : ⊥ = omega arith in y)
-finds test (suc n) i j e = go (test i) refl (finds test n (suc i) j)
-  where
-    go : (b : Bool) → test i ≡ b → (first_from test (suc i) n ≡ At j → Finds test (suc i) n j) → Finds test i (suc n) j
-    go true f later =
-        let here : i ≡ j = cc (rw f at e) in
-        record { low = omega arith; high = omega arith; passes = ap test (sym here) ∙ f }
-    go false f later =
-        let r = later (rw f at e) in
-        record { low = omega (arith, r.low); high = omega (arith, r.high); passes = r.passes }
+finds test zero i j e = grind arith
+finds test (suc n) i j e = grind (arith, finds test n (suc i) j)
 
 pub same_places : (f g : ℕ → Place ℕ) (n i : ℕ) → ((j : ℕ) → i ≤ j → j < i + n → f j ≡ g j) → places_from f i n ≡ places_from g i n
 unfolding places_from
@@ -49,23 +39,11 @@ but place j p i = cond (eqb i j) p (place i)
 module _ (test : Place ℕ → Bool) (put : Place ℕ → Table ℕ → Table ℕ)
     (passes-by : (p q : Place ℕ) (t : Table ℕ) → test q ≡ false → put p (q ∷ t) ≡ q ∷ put p t)
     (puts : (p q : Place ℕ) (t : Table ℕ) → test q ≡ true → put p (q ∷ t) ≡ p ∷ t) (place : ℕ → Place ℕ) (p : Place ℕ) where
-  put_found : (n i j : ℕ) → first_from (λ x. test (place x)) i n ≡ At j → put p (places_from place i n) ≡ places_from (but place j p) i n
+  put_found : (n i j : ℕ) → first_from (λ x. test (place x)) i n ≡ Some j → put p (places_from place i n) ≡ places_from (but place j p) i n
   unfolding first_from places_from
-  put_found zero i j e = absurd (let z : ◌≡◌ {A = ℕ} 0 1 = cc in let y : ⊥ = omega arith in y)
-  put_found (suc n) i j e = go (test (place i)) refl (put_found n (suc i) j)
-    where
-      go : (b : Bool) → test (place i) ≡ b
-          → (first_from (λ x. test (place x)) (suc i) n ≡ At j → put p (places_from place (suc i) n) ≡ places_from (but place j p) (suc i) n)
-          → put p (place i ∷ places_from place (suc i) n) ≡ cond (eqb i j) p (place i) ∷ places_from (but place j p) (suc i) n
-      go true f later =
-          let here : i ≡ j = cc (rw f at e) in
-          puts p (place i) (places_from place (suc i) n) f
-          ∙ rw (eq-eqb i j here)
-          (ap (λ (t : Table ℕ). p ∷ t) (same_places place (but place j p) n (suc i) (λ x l h. rw (ne_eqb x j (λ z. omega arith)))))
-      go false f later =
-          let found = finds (λ x. test (place x)) n (suc i) j (rw f at e) in
-          passes-by p (place i) (places_from place (suc i) n) f
-          ∙ rw (ne_eqb i j (λ z. omega (arith, found.low))) (ap (λ (t : Table ℕ). place i ∷ t) (later (rw f at e)))
+  put_found zero i j e = grind arith
+  put_found (suc n) i j e =
+      grind (arith, puts, passes-by, finds (λ x. test (place x)) n (suc i) j, put_found n (suc i) j, same_places place (but place j p) n (suc i))
 
 -- the records of a key, of which c is the first
 pub record Begins (c : Channel ℕ) (cs : List (Channel ℕ)) : Type 0 where
@@ -80,38 +58,21 @@ module _ (k : Key) where
   headed : (p : Place ℕ) (t : Table ℕ) (j : Key) (c : Channel ℕ) → is_of k p ≡ true → p ≡ held j c → channels k (p ∷ t) ≡ c ∷ channels k t
   headed p t j c e h = rw (h, ap (is_of k) (sym h) ∙ e)
 
-  pub channels_found : (place : ℕ → Place ℕ) (j : Key) (c : Channel ℕ) (n i at : ℕ) → first_from (λ x. is_of k (place x)) i n ≡ At at → place at ≡ held j c
+  pub channels_found : (place : ℕ → Place ℕ) (j : Key) (c : Channel ℕ) (n i at : ℕ) → first_from (λ x. is_of k (place x)) i n ≡ Some at → place at ≡ held j c
       → Begins c (channels k (places_from place i n))
   unfolding first_from places_from
-  channels_found place j c zero i at e h = absurd (let z : ◌≡◌ {A = ℕ} 0 1 = cc in let y : ⊥ = omega arith in y)
-  channels_found place j c (suc n) i at e h = go (is_of k (place i)) refl (channels_found place j c n (suc i) at)
-    where
-      go : (b : Bool) → is_of k (place i) ≡ b
-          → (first_from (λ x. is_of k (place x)) (suc i) n ≡ At at → place at ≡ held j c → Begins c (channels k (places_from place (suc i) n)))
-          → Begins c (channels k (place i ∷ places_from place (suc i) n))
-      go true f later =
-          let here : i ≡ at = cc (rw f at e) in
-          record { others = channels k (places_from place (suc i) n); is = headed (place i) (places_from place (suc i) n) j c f (ap place here ∙ h) }
-      go false f later = rw (passed (place i) (places_from place (suc i) n) f) (later (rw f at e) h)
+  channels_found place j c zero i at e h = grind arith
+  channels_found place j c (suc n) i at e h = grind (arith, passed, headed, channels_found place j c n (suc i) at)
 
-  pub channels_none : (place : ℕ → Place ℕ) (n i : ℕ) → first_from (λ x. is_of k (place x)) i n ≡ Nothing → channels k (places_from place i n) ≡ []
+  pub channels_none : (place : ℕ → Place ℕ) (n i : ℕ) → first_from (λ x. is_of k (place x)) i n ≡ None → channels k (places_from place i n) ≡ []
   unfolding first_from places_from
   channels_none place zero i e = refl
-  channels_none place (suc n) i e = go (is_of k (place i)) refl (channels_none place n (suc i))
-    where
-      go : (b : Bool) → is_of k (place i) ≡ b → (first_from (λ x. is_of k (place x)) (suc i) n ≡ Nothing → channels k (places_from place (suc i) n) ≡ [])
-          → channels k (place i ∷ places_from place (suc i) n) ≡ []
-      go true f later = absurd (let z : ◌≡◌ {A = ℕ} 0 1 = cc (rw f at e) in let y : ⊥ = omega arith in y)
-      go false f later = passed (place i) (places_from place (suc i) n) f ∙ later (rw f at e)
+  channels_none place (suc n) i e = grind (arith, channels_none place n (suc i), passed)
 
-  open_is : (q : Place ℕ) (t : Table ℕ) (i : ℕ) (f : Found) → is_open (channels k t) ≡ is_found f
-      → is_open (channels k (q ∷ t)) ≡ is_found (cond (is_of k q) (At i) f)
+  open_is : (q : Place ℕ) (t : Table ℕ) (i : ℕ) (f : Option ℕ) → is_open (channels k t) ≡ is_found f
+      → is_open (channels k (q ∷ t)) ≡ is_found (cond (is_of k q) (Some i) f)
   open_is free t i f e = e
-  open_is (held j c) t i f e = go (same_key j k)
-    where
-      go : (b : Bool) → is_open (cond b (c ∷ channels k t) (channels k t)) ≡ is_found (cond b (At i) f)
-      go true = refl
-      go false = e
+  open_is (held j c) t i f e = grind arith
 
   -- a key has a record exactly if a walk finds its place
   pub open_is_found : (place : ℕ → Place ℕ) (n i : ℕ) → is_open (channels k (places_from place i n)) ≡ is_found (first_from (λ x. is_of k (place x)) i n)
@@ -125,26 +86,26 @@ module _ (k : Key) where
   put_open_past p (held j c) t e = rw e
 
   put_open_here : (p q : Place ℕ) (t : Table ℕ) → is_of k q ≡ true → put_open k p (q ∷ t) ≡ p ∷ t
-  put_open_here p free t e = absurd (let z : ◌≡◌ {A = ℕ} 0 1 = cc in let y : ⊥ = omega arith in y)
+  put_open_here p free t e = grind arith
   put_open_here p (held j c) t e = rw e
 
-  pub put_open_found : (place : ℕ → Place ℕ) (p : Place ℕ) (n i at : ℕ) → first_from (λ x. is_of k (place x)) i n ≡ At at
+  pub put_open_found : (place : ℕ → Place ℕ) (p : Place ℕ) (n i at : ℕ) → first_from (λ x. is_of k (place x)) i n ≡ Some at
       → put_open k p (places_from place i n) ≡ places_from (but place at p) i n
   put_open_found place p = put_found (is_of k) (put_open k) put_open_past put_open_here place p
 
 put_free_past : (p q : Place ℕ) (t : Table ℕ) → is_free q ≡ false → put_free p (q ∷ t) ≡ q ∷ put_free p t
-put_free_past p free t e = absurd (let z : ◌≡◌ {A = ℕ} 0 1 = cc in let y : ⊥ = omega arith in y)
+put_free_past p free t e = grind arith
 put_free_past p (held j c) t e = refl
 
 put_free_here : (p q : Place ℕ) (t : Table ℕ) → is_free q ≡ true → put_free p (q ∷ t) ≡ p ∷ t
 put_free_here p free t e = refl
-put_free_here p (held j c) t e = absurd (let z : ◌≡◌ {A = ℕ} 0 1 = cc in let y : ⊥ = omega arith in y)
+put_free_here p (held j c) t e = grind arith
 
-pub put_free_found : (place : ℕ → Place ℕ) (p : Place ℕ) (n i at : ℕ) → first_from (λ x. is_free (place x)) i n ≡ At at
+pub put_free_found : (place : ℕ → Place ℕ) (p : Place ℕ) (n i at : ℕ) → first_from (λ x. is_free (place x)) i n ≡ Some at
     → put_free p (places_from place i n) ≡ places_from (but place at p) i n
 put_free_found place p = put_found is_free put_free put_free_past put_free_here place p
 
-room_is : (q : Place ℕ) (t : Table ℕ) (i : ℕ) (f : Found) → room t ≡ is_found f → room (q ∷ t) ≡ is_found (cond (is_free q) (At i) f)
+room_is : (q : Place ℕ) (t : Table ℕ) (i : ℕ) (f : Option ℕ) → room t ≡ is_found f → room (q ∷ t) ≡ is_found (cond (is_free q) (Some i) f)
 room_is free t i f e = refl
 room_is (held j c) t i f e = e
 
@@ -155,8 +116,8 @@ room_is_found place zero i = refl
 room_is_found place (suc n) i =
     room_is (place i) (places_from place (suc i) n) i (first_from (λ x. is_free (place x)) (suc i) n) (room_is_found place n (suc i))
 
-pub room_found : (place : ℕ → Place ℕ) (n i at : ℕ) → first_from (λ x. is_free (place x)) i n ≡ At at → room (places_from place i n) ≡ true
+pub room_found : (place : ℕ → Place ℕ) (n i at : ℕ) → first_from (λ x. is_free (place x)) i n ≡ Some at → room (places_from place i n) ≡ true
 room_found place n i at e = room_is_found place n i ∙ rw e
 
-pub room_none : (place : ℕ → Place ℕ) (n i : ℕ) → first_from (λ x. is_free (place x)) i n ≡ Nothing → room (places_from place i n) ≡ false
+pub room_none : (place : ℕ → Place ℕ) (n i : ℕ) → first_from (λ x. is_free (place x)) i n ≡ None → room (places_from place i n) ≡ false
 room_none place n i e = room_is_found place n i ∙ rw e

@@ -1,10 +1,10 @@
 -- Keys by their two words: a place stores a call's key exactly if it is an open place with that key. Assumes nothing.
 use Prim.Native.Nat.{ℕ, ◌+◌, ◌-◌, ◌*◌, ◌/◌, ◌%◌, ◌≤◌}
 use mathlib.Core.Path.{◌≡◌, refl, ap, sym, ◌∙◌}
-use mathlib.Core.Bool.{Bool, true, false, cond, ◌&&◌, and-true}
+use mathlib.Core.Bool.{true, cond, ◌&&◌}
 use mathlib.Core.List.{List}
 use native.Mathlib.Omega.{arith}
-use borrow.Author.Tests.{eqb-true, eqb-false, eq-eqb, ne_eqb}
+use borrow.Author.Tests.{eqb-true, ne_eqb}
 use lib.ListN.{get_or}
 use lib.Dec.{eqb}
 use Rattle.larq.specs.Channel.{Channel}
@@ -34,26 +34,7 @@ word_of a d p h e f = omega arith
 -- words that store a key are that key's own
 same_words : (k : Key) (a b : ℕ) → k.priority ≤ 7 → 1 ≤ a → same_key (stored_key a b) k ≡ (eqb a (first_word k) && eqb b k.source)
 unfolding same_key
-same_words k a b h pos = go (eqb a (first_word k)) refl
-  where
-    fields : (d : Bool) → eqb ((a - 1) / 16) k.destination ≡ d → (p : Bool) → eqb ((a - 1) % 16) k.priority ≡ p → (s : Bool)
-        → (a ≡ first_word k → ⊥) → d && (s && p) ≡ false
-    fields true e true f s ne =
-        absurd (ne (word_of a k.destination k.priority pos (eqb-true ((a - 1) / 16) k.destination e) (eqb-true ((a - 1) % 16) k.priority f)))
-    fields true e false f true ne = refl
-    fields true e false f false ne = refl
-    fields false e p f s ne = refl
-
-    go : (t : Bool) → eqb a (first_word k) ≡ t
-        → eqb ((a - 1) / 16) k.destination && (eqb b k.source && eqb ((a - 1) % 16) k.priority) ≡ (eqb a (first_word k) && eqb b k.source)
-    go true e =
-        let w = eqb-true a (first_word k) e in
-        let d : (a - 1) / 16 ≡ k.destination = omega arith in
-        let p : (a - 1) % 16 ≡ k.priority = omega arith in
-        rw (e, eq-eqb ((a - 1) / 16) k.destination d, eq-eqb ((a - 1) % 16) k.priority p) (and-true (eqb b k.source))
-    go false e =
-        rw e
-        (fields (eqb ((a - 1) / 16) k.destination) refl (eqb ((a - 1) % 16) k.priority) refl (eqb b k.source) (eqb-false a (first_word k) e))
+same_words k a b h pos = grind (arith, word_of a k.destination k.priority pos)
 
 -- the place whose key words are a and b
 placed : (a b : ℕ) → Channel ℕ → Place ℕ
@@ -61,19 +42,11 @@ placed a b c = cond (eqb a 0) free (held (stored_key a b) c)
 
 of_words : (k : Key) (a b : ℕ) (c : Channel ℕ) → k.priority ≤ 7 → is_of k (placed a b c) ≡ (eqb a (first_word k) && eqb b k.source)
 unfolding placed
-of_words k a b c h = go (eqb a 0) refl
-  where
-    go : (t : Bool) → eqb a 0 ≡ t → is_of k (cond t free (held (stored_key a b) c)) ≡ (eqb a (first_word k) && eqb b k.source)
-    go true e = let z = eqb-true a 0 e in rw (ne_eqb a (first_word k) (λ q. omega arith))
-    go false e = let z = eqb-false a 0 e in same_words k a b h (omega arith)
+of_words k a b c h = grind (arith, same_words k a b h)
 
 free_words : (a b : ℕ) (c : Channel ℕ) → is_free (placed a b c) ≡ eqb a 0
 unfolding placed
-free_words a b c = go (eqb a 0)
-  where
-    go : (t : Bool) → is_free (cond t free (held (stored_key a b) c)) ≡ t
-    go true = refl
-    go false = refl
+free_words a b c = grind arith
 
 module _ (keys : List ℕ) (i : ℕ) where
   first_at : get_or (part key_words i keys) 0 0 ≡ get_or keys (key_words * i) 0

@@ -5,13 +5,13 @@ use mathlib.Core.Path.{◌≡◌, refl, ap, sym, ◌∙◌}
 use mathlib.Core.Bool.{Bool, true, false, and-false}
 use mathlib.Core.List.{List}
 use native.Mathlib.Omega.{arith}
+use Rattle.std.specs.Prelude.{Some, None}
 use borrow.Author.Tests.{eq-eqb, ne_eqb}
 use lib.ListN.{get_or}
 use lib.Dec.{eqb}
 use Rattle.table.specs.Key.{key_words}
 use Rattle.table.specs.Table.{table_keys}
 use Rattle.table.specs.First.{first_place, first_from, has_word, stores, places}
-use Rattle.table.specs.declared.lookup.Found.TheVariants.{At, Nothing}
 use Rattle.table.proofs.First.{here, past, none, none_there, from_there}
 use Rattle.table.proofs.Places.{Finds, finds}
 
@@ -46,10 +46,10 @@ module _ (keys : List ℕ) (w word : ℕ) where
               ∙ ap (λ (x : ℕ). first_from test x (places - x)) next;
         }
 
-    pub ends : j ≡ table_keys → Nothing ≡ first_place test
+    pub ends : j ≡ table_keys → None ≡ first_place test
     ends over = sym (before.still ∙ none test places (j / 2) (omega arith))
 
-    pub found : (j ≡ table_keys → ⊥) → get_or keys (j + w) 0 ≡ word → At (j / 2) ≡ first_place test
+    pub found : (j ≡ table_keys → ⊥) → get_or keys (j + w) 0 ≡ word → Some (j / 2) ≡ first_place test
     found more same = sym (before.still ∙ here test places (j / 2) (more_left more) (word_is true (eq-eqb (get_or keys (j + w) 0) word same)))
 
 module _ (keys : List ℕ) (first second : ℕ) where
@@ -62,10 +62,10 @@ module _ (keys : List ℕ) (first second : ℕ) where
   narrower : (j : ℕ) → of_source j ≡ false → of_key j ≡ false
   narrower j e = rw e (and-false (eqb (get_or keys (key_words * j) 0) first))
 
-  pub unknown_source : first_place of_source ≡ Nothing → Nothing ≡ first_place of_key
+  pub unknown_source : first_place of_source ≡ None → None ≡ first_place of_key
   unknown_source e = sym (none_there of_source of_key narrower places 0 e)
 
-  module _ (i : ℕ) (there : first_place of_source ≡ At i) where
+  module _ (i : ℕ) (there : first_place of_source ≡ Some i) where
     it : Finds of_source 0 places i
     it = finds of_source places 0 i there
 
@@ -75,7 +75,7 @@ module _ (keys : List ℕ) (first second : ℕ) where
     from_it : first_place of_key ≡ first_from of_key i (places - i)
     from_it = from_there of_source of_key narrower places 0 i there
 
-    pub its_first : get_or keys (key_words * i) 0 ≡ first → At i ≡ first_place of_key
+    pub its_first : get_or keys (key_words * i) 0 ≡ first → Some i ≡ first_place of_key
     its_first e = sym (from_it ∙ here of_key places i inside (rw (eq-eqb (get_or keys (key_words * i) 0) first e) it.passes))
 
     pub a_later_one : (get_or keys (key_words * i) 0 ≡ first → ⊥) → first_from of_key (i + 1) (places - (i + 1)) ≡ first_place of_key

@@ -1,19 +1,17 @@
 -- The first of the 64 places that passes a test: a key is looked for by one, and a place for a new channel by another. Document 01, 'The
 -- channel table'.
-use Rattle.std.specs.Prelude.{ℕ, zero, suc, ◌+◌, ◌*◌, Bool, cond, ◌&&◌, List, get_or, eqb}
+use Rattle.std.specs.Prelude.{ℕ, zero, suc, ◌+◌, ◌*◌, Bool, cond, ◌&&◌, List, get_or, eqb, Option, Some, None}
 use Rattle.table.specs.Key.{key_words}
-use Rattle.table.specs.declared.lookup.Found.{Found}
-use Rattle.table.specs.declared.lookup.Found.TheVariants.{At, Nothing}
 
 abbrev pub places : ℕ
 places = 64
 
 -- of n places from the i-th on
-unfoldable pub first_from : (ℕ → Bool) → ℕ → ℕ → Found
-first_from test i zero = Nothing
-first_from test i (suc n) = cond (test i) (At i) (first_from test (suc i) n)
+unfoldable pub first_from : (ℕ → Bool) → ℕ → ℕ → Option ℕ
+first_from test i zero = None
+first_from test i (suc n) = cond (test i) (Some i) (first_from test (suc i) n)
 
-abbrev pub first_place : (ℕ → Bool) → Found
+abbrev pub first_place : (ℕ → Bool) → Option ℕ
 first_place test = first_from test 0 places
 
 -- the key of place i has this word: its first where w is 0, its source where w is 1

@@ -3,3 +3,4 @@ pub mod First
 pub mod Table
 pub mod Way
 pub mod Addressed
+pub mod Words

@@ -4,10 +4,9 @@ mod key;
 mod lookup;
 mod way;
 
-pub use key::{address, first_word};
-pub use lookup::Found;
+pub use key::{Key, StoredKey, address, first_word};
 pub use slots::{SLOTS, WORDS};
-pub use way::{DataWay, Way, data_way_of, is_whole, way_of};
+pub use way::{DataPlace, data_way_of, is_whole, way_of};
 
 // The layout of the lent table: its places, and how many words of the keys belong to one of them. What else belongs to a place is told by slots.
 pub const PLACES: usize = 64;

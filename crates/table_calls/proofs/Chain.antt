@@ -5,13 +5,15 @@ use mathlib.Core.Path.{◌≡◌, refl}
 use mathlib.Core.List.{List, [], ◌∷◌}
 use native.Mathlib.Omega.{arith}
 use lib.ListN.{set, replicate}
+use Rattle.std.specs.Prelude.{Ok, Err}
 use Rattle.larq.specs.Channel.{window}
 use Rattle.larq.specs.Answer as rule
 use Rattle.larq.specs.Events.{frame}
 use Rattle.larq.specs.Table.{Key, same_key, Event, one, outcome}
 use Rattle.larq.specs.Counts.{strayed, Note}
+use Rattle.larq.specs.declared.refused.Refused.{Refused}
 use Rattle.slots.specs.Slots.{place_words, with_head}
-use Rattle.place.specs.Call.{Begins, Buffers, buffers}
+use Rattle.place.specs.Call.{Begins, Buffers, buffers, Told, told}
 use Rattle.place.specs.declared.Answer.{Answer}
 use Rattle.table.specs.First.{first_from}
 use Rattle.table.specs.Key.{first_word}
@@ -47,10 +49,10 @@ abbrev opened_table : Slices
 opened_table = slices (keyed (replicate table_keys 0) 0 (first_word key) 2) (put place_words 0 words first_part) (replicate table_slots 0) (replicate table_slots 0)
 
 abbrev one_up : Answer
-one_up = record { number = 0; up = 1; returned = 0; nack = 0; lost = 0 }
+one_up = record { up = 1; returned = 0; nack = 0; lost = 0 }
 
 begins : Begins 4095 7 100 (lent place_words 0 words) room_for_all first_part (set room_for_all 0 7) one_up
-begins = record { head = refl; frame = refl; answer = record { number = refl; up = refl; returned = refl; nack = refl; lost = refl } }
+begins = record { head = refl; frame = refl; answer = record { up = refl; returned = refl; nack = refl; lost = refl } }
 
 abbrev handed_up : rule.Answer ℕ
 handed_up = record { number = 0; up = 7 ∷ []; returned = []; nack = []; lost = 0 }
@@ -58,15 +60,15 @@ handed_up = record { number = 0; up = 7 ∷ []; returned = []; nack = []; lost =
 abbrev opening : Event ℕ
 opening = event_of key 100 (frame 4095 7) all_zeros before
 
-opens : Did opening all_zeros opened_table before (buffers (set room_for_all 0 7) room_for_all room_for_all) one_up
+opens : Did opening all_zeros opened_table before (buffers (set room_for_all 0 7) room_for_all room_for_all) (told (Ok one_up))
 unfolding first_from
 opens =
     opened_did (replicate table_keys 0) words (replicate table_slots 0) (replicate table_slots 0) room_for_all room_for_all room_for_all key 100 4095 7
     (record { lent = refl; number = refl; priority = refl }) refl 0 refl
     (opened_part (replicate table_keys 0) 0 (first_word key) 2 refl (omega arith) refl begins)
 
-abbrev number_2 : Answer
-number_2 = record { number = 2; up = 0; returned = 0; nack = 0; lost = 0 }
+abbrev number_2 : Told
+number_2 = told (Err Refused.Number)
 
 abbrev refused_by_2 : rule.Answer ℕ
 refused_by_2 = record { number = 2; up = []; returned = []; nack = []; lost = 0 }
@@ -77,11 +79,11 @@ astray = event_of key 101 (frame 4096 8) opened_table before
 
 refuses : Did astray opened_table opened_table before before number_2
 unfolding outcome one
-refuses = refused_did astray opened_table before 2 number_2 refl (record { number = refl; up = refl; returned = refl; nack = refl; lost = refl })
+refuses = refused_did astray opened_table before Refused.Number refl
 
 -- what the host hears
 pub chain : Calls all_zeros (opening ∷ (astray ∷ [])) (handed_up ∷ (refused_by_2 ∷ [])) opened_table
-chain = call before (buffers (set room_for_all 0 7) room_for_all room_for_all) one_up opens (call before before number_2 refuses none)
+chain = call before (buffers (set room_for_all 0 7) room_for_all room_for_all) (told (Ok one_up)) opens (call before before number_2 refuses none)
 
 -- handle 7 of the first call stands once, among what went up
 pub calls_kept_met : HearsKept 0 (opening ∷ (astray ∷ [])) (handed_up ∷ (refused_by_2 ∷ [])) opened_table

@@ -1,82 +1,71 @@
 -- The promises of the four events, from the way that a call goes and what was done on that way. Assumes nothing.
-use Prim.Native.Nat.{ℕ, suc, ◌≤◌, ◌<◌}
+use Prim.Native.Nat.{ℕ, ◌≤◌, ◌<◌}
 use mathlib.Core.Path.{◌≡◌, refl, ap, sym, ◌∙◌}
 use mathlib.Core.Logic.{⊎_elim}
-use mathlib.Core.Option.{Option, some, none}
-use mathlib.Core.Bool.{true, false, cond}
-use mathlib.Core.List.{List, [], ◌∷◌}
+use mathlib.Core.Bool.{true, false}
+use mathlib.Core.List.{List}
 use native.Mathlib.Omega.{arith}
-use borrow.Author.Tests.{ne_eqb, leb-true}
+use borrow.Author.Tests.{leb-true}
 use lib.ListN.{length}
-use lib.Dec.{leb, eqb}
-use Rattle.larq.specs.Channel.{Cell, Channel, window}
+use lib.Dec.{leb}
+use Rattle.std.specs.Prelude.{Option, Some, None, Result, Ok, Err}
+use Rattle.std.specs.Result.{IsErrAnd}
+use Rattle.std.proofs.lemmas.Result.{err_from_is_err_and}
+use Rattle.larq.specs.Channel.{window}
 use Rattle.larq.specs.Answer.{refused}
-use Rattle.larq.specs.Events.{Act, frame, reminder, tick, close, data_on, filled, filling, reminder_on, side_of, act_on}
-use Rattle.larq.specs.Table.{Key, Lent, Event, number_in_ring, is_data, one}
+use Rattle.larq.specs.Events.{Act, frame, close, act_on}
+use Rattle.larq.specs.Table.{Key, Lent, Event, number_in_ring, is_data, one, outcome}
 use Rattle.larq.specs.Demands.{is_close}
-use Rattle.larq.proofs.Cases.{one_case}
-use Rattle.ring.specs.Ring.{steps, Side, Ahead, Behind, Far}
+use Rattle.larq.specs.Refused.{number_of}
+use Rattle.larq.specs.declared.refused.Refused.{Refused}
 use Rattle.slots.specs.Slots.{slots, place_words}
-use Rattle.place.specs.Call.{Parts, parts, Buffers, buffers, event_at, rule_at, Called, Says}
-use Rattle.record.specs.Place.{record_of}
+use Rattle.record.specs.Lengths.{lengths_of}
+use Rattle.record.specs.declared.Lengths.{Lengths}
+use Rattle.place.specs.Call.{Parts, parts, Buffers, buffers, rule_at, Called, Told, told}
 use Rattle.place.specs.declared.Answer.{Answer}
 use Rattle.table.specs.First.{places, first_place, stores, stores_none}
-use Rattle.table.specs.Key.{key_of, first_word}
-use Rattle.table.specs.Table.{Slices, slices, place_at, table_keys, table_words, table_slots}
-use Rattle.table.specs.Way.{table_lent, early_number, place_for, way_says, way_for, data_way_says, data_way_for}
+use Rattle.table.specs.Key.{first_word}
+use Rattle.table.specs.Table.{Slices, slices, place_at, table_of, table_keys, table_words, table_slots}
+use Rattle.table.specs.Way.{table_lent, table_lent_by, early_number, place_for, way_says, way_for, data_way_says, data_way_for}
+use Rattle.table.specs.Words.{words_of}
+use Rattle.table.specs.declared.key.StoredKey.{StoredKey}
+use Rattle.table.specs.declared.way.DataPlace.{DataPlace}
+use Rattle.table.specs.declared.way.DataPlace.TheVariants.{Known, Free}
 use Rattle.table_calls.specs.Writes.{keyed, Opens}
 use Rattle.table.specs.Addressed.{is_of}
 use Rattle.table_calls.specs.Event.{event_of, Did, Call}
-use Rattle.table.specs.declared.lookup.Found.TheVariants.{At, Nothing}
-use Rattle.table.specs.declared.way.Way.{Way}
-use Rattle.table.specs.declared.way.DataWay.{DataWay}
 use Rattle.table.proofs.Parts.{put, lent, lent_part}
 use Rattle.table.proofs.Places.{finds}
 use Rattle.table.proofs.Stored.{place_is, spare_is}
-use Rattle.table.proofs.Saying.{way_of_key, data_way_of_key}
-use Rattle.table.proofs.Ways.{way_by, data_way_by, Passed, judged_passed, whole_sizes, lent_whole, lent_room, known_way, refused_way, unknown_way, data_way_known, data_way_free, data_way_refused}
+use Rattle.table.proofs.Saying.{way_known, way_refused, data_known, data_free, data_refused, way_of_stored, data_way_of_stored}
+use Rattle.table.proofs.Ways.{Passed, judged_passed, whole_sizes, lent_whole, lent_room}
 use Rattle.table_calls.proofs.Ruled.{parts_at, early_refused, unknown_refused, full_refused}
 use Rattle.table_calls.proofs.Promised.{KeysAfter, refused_did}
 use Rattle.table_calls.proofs.Known.{within, known_did}
 use Rattle.table_calls.proofs.Opening.{opened_did}
 
+-- no refusal has the number of what is accepted
+no_zero : (why : Refused) → number_of why ≡ 0 → ⊥
+no_zero why e = grind arith
+
 -- Only an accepted close frees a place, and it always does.
 module _ (i : ℕ) (keys : List ℕ) where
-  filled_keys : (w : ℕ) (c : Channel ℕ) (t h : ℕ) (o : Option (List (Cell ℕ))) → KeysAfter (filled w c t h o).change i keys keys
-  filled_keys w c t h none = refl
-  filled_keys w c t h (some cs) = refl
+  keys_stay : (p : Parts) (b : Buffers) (time : ℕ) (act : Act ℕ) → is_close act ≡ false → KeysAfter (rule_at p b time act).change i keys keys
+  unfolding one act_on
+  keys_stay p b time act e = grind arith
 
-  data_keys : (w : ℕ) (c : Channel ℕ) (t s h : ℕ) (side : Side) → KeysAfter (data_on w c t s h side).change i keys keys
-  data_keys w c t s h (Ahead d) = refl
-  data_keys w c t s h (Behind d) = filled_keys w c t h (filling c.cells (steps c.oldest s) h)
-  data_keys w c t s h Far = refl
+  keys_freed : (p : Parts) (b : Buffers) (time : ℕ) → (rule_at p b time close).answer.number ≡ 0
+      → KeysAfter (rule_at p b time close).change i keys (keyed keys i 0 0)
+  unfolding one act_on
+  keys_freed p b time accepted = grind arith
 
-  reminder_keys : (w : ℕ) (c : Channel ℕ) (t s : ℕ) (side : Side) → KeysAfter (reminder_on w c t s side).change i keys keys
-  reminder_keys w c t s (Ahead d) = refl
-  reminder_keys w c t s (Behind d) = refl
-  reminder_keys w c t s Far = refl
-
-  act_keys : (w : ℕ) (c : Channel ℕ) (t : ℕ) (act : Act ℕ) → is_close act ≡ false → KeysAfter (act_on w c t act).change i keys keys
-  unfolding act_on
-  act_keys w c t (frame s h) e = data_keys w c t s h (side_of w c s)
-  act_keys w c t (reminder s) e = reminder_keys w c t s (side_of w c s)
-  act_keys w c t tick e = refl
-  act_keys w c t close e = absurd (let z : ◌≡◌ {A = ℕ} 0 1 = cc in let y : ⊥ = omega arith in y)
-
-  pub keys_stay : (p : Parts) (b : Buffers) (time : ℕ) (act : Act ℕ) → is_close act ≡ false → KeysAfter (rule_at p b time act).change i keys keys
-  keys_stay p b time act e =
-      one_case window true (record_of p.words p.handles p.marks ∷ []) (event_at p b time act) (λ o. KeysAfter o.change i keys keys) (λ n. refl)
-      (λ _. act_keys window (record_of p.words p.handles p.marks) time act e)
-
-  pub keys_freed : (p : Parts) (b : Buffers) (time : ℕ)
-      → KeysAfter (rule_at p b time close).change i keys (cond (eqb (rule_at p b time close).answer.number 0) (keyed keys i 0 0) keys)
-  unfolding act_on
-  keys_freed p b time =
-      one_case window true (record_of p.words p.handles p.marks ∷ []) (event_at p b time close)
-      (λ o. KeysAfter o.change i keys (cond (eqb o.answer.number 0) (keyed keys i 0 0) keys)) (λ n. rw (ne_eqb (suc n) 0 (λ z. omega arith))) (λ _. refl)
+  keys_kept : (p : Parts) (b : Buffers) (time : ℕ) → ((rule_at p b time close).answer.number ≡ 0 → ⊥)
+      → KeysAfter (rule_at p b time close).change i keys keys
+  unfolding one act_on
+  keys_kept p b time refused = grind arith
 
 -- All that a call is lent and told, but for what makes it one event and not another.
-pub record Told : Type 0 where
+pub record Asked : Type 0 where
   pub keys : List ℕ
   pub words : List ℕ
   pub handles : List ℕ
@@ -84,14 +73,12 @@ pub record Told : Type 0 where
   pub up : List ℕ
   pub returned : List ℕ
   pub nack : List ℕ
-  pub destination : List ℕ
-  pub source : List ℕ
-  pub priority : ℕ
+  pub key : Key
   pub time : ℕ
 
 -- the same, from what stands behind a call's references
-abbrev pub told : (keys words handles marks up returned nack destination source : List ℕ) → ℕ → ℕ → Told
-told keys words handles marks up returned nack destination source priority time =
+abbrev pub asked : (keys words handles marks up returned nack : List ℕ) → Key → ℕ → Asked
+asked keys words handles marks up returned nack key time =
     record {
       keys = keys;
       words = words;
@@ -100,46 +87,41 @@ told keys words handles marks up returned nack destination source priority time 
       up = up;
       returned = returned;
       nack = nack;
-      destination = destination;
-      source = source;
-      priority = priority;
+      key = key;
       time = time;
     }
 
-module _ (c : Told) where
+module _ (c : Asked) where
   abbrev pub before : Slices
   before = slices c.keys c.words c.handles c.marks
 
   abbrev pub had : Buffers
   had = buffers c.up c.returned c.nack
 
-  abbrev pub key : Key
-  key = key_of c.destination c.source c.priority
-
-  abbrev pub lent_now : Lent
+  abbrev lent_now : Lent
   lent_now =
       table_lent (length c.keys) (length c.words) (length c.handles) (length c.marks) (length c.up) (length c.returned) (length c.nack)
 
-  abbrev pub judgement : ℕ → ℕ
-  judgement number = early_number lent_now number c.priority
+  abbrev judgement : ℕ → ℕ
+  judgement number = early_number lent_now number c.key.priority
 
-  abbrev pub way : ℕ → Way
-  way number = way_by (judgement number) (place_for c.keys key)
+  abbrev place : Option ℕ
+  place = place_for c.keys c.key
 
-  abbrev pub data_way : ℕ → DataWay
-  data_way number = data_way_by (way number) (first_place (stores_none c.keys))
+  abbrev spare : Option ℕ
+  spare = first_place (stores_none c.keys)
 
-  -- the way that was looked for by the two words of the key
-  module _ (number x y : ℕ) (one : x ≡ first_word key) (two : y ≡ key.source) where
-    pub by_key : (w : Way) → way_says w ≡ way_for lent_now number c.priority (first_place (stores c.keys x y)) → w ≡ way number
-    by_key w e = way_of_key lent_now number c.keys key x y one two w e
+  -- what `way_of` and `data_way_of` say of an event that has this number, by the lengths and the stored key that the call hands on
+  module _ (number : ℕ) (l : Lengths) (k : StoredKey) where
+    abbrev pub WaySays : Result ℕ Refused → Type 0
+    WaySays r = way_says r ≡ way_for (table_lent_by (length c.keys) l) number k.priority (first_place (stores c.keys k.first k.second))
 
-    pub by_data_key : (w : DataWay) → data_way_says w ≡ data_way_for lent_now number c.priority (first_place (stores c.keys x y)) (first_place (stores_none c.keys))
-        → w ≡ data_way number
-    by_data_key w e = data_way_of_key lent_now number c.keys key x y one two w e
+    abbrev pub DataWaySays : Result DataPlace Refused → Type 0
+    DataWaySays r =
+        data_way_says r ≡ data_way_for (table_lent_by (length c.keys) l) number k.priority (first_place (stores c.keys k.first k.second)) spare
 
 -- what a call that goes to place i knows: the place is one of the 64, and the slices are as long as they should be
-pub record Goes (c : Told) (i : ℕ) : Type 0 where
+pub record Goes (c : Asked) (i : ℕ) : Type 0 where
   pub here : i < places
   pub keys_sized : length c.keys ≡ table_keys
   pub words_sized : length c.words ≡ table_words
@@ -147,142 +129,177 @@ pub record Goes (c : Told) (i : ℕ) : Type 0 where
   pub marks_sized : length c.marks ≡ table_slots
 
 -- the parts of its place, as they are lent
-abbrev pub lent_parts : Told → ℕ → Parts
+abbrev pub lent_parts : Asked → ℕ → Parts
 lent_parts c i = parts (lent place_words i c.words) (lent slots i c.handles) (lent slots i c.marks)
 
 -- they came back with as many elements
-pub record Back (c : Told) (i : ℕ) (p : Parts) : Type 0 where
+pub record Back (c : Asked) (i : ℕ) (p : Parts) : Type 0 where
   pub words : length p.words ≡ length (lent place_words i c.words)
   pub handles : length p.handles ≡ length (lent slots i c.handles)
   pub marks : length p.marks ≡ length (lent slots i c.marks)
 
 -- the slices when the parts are back
-abbrev pub after : Told → ℕ → List ℕ → Parts → Slices
+abbrev pub after : Asked → ℕ → List ℕ → Parts → Slices
 after c i keys p = slices keys (put place_words i c.words p.words) (put slots i c.handles p.handles) (put slots i c.marks p.marks)
 
-module _ (c : Told) (act : Act ℕ) (number : ℕ) (numbered : number_in_ring act ≡ leb number 4095) where
+-- A call of an event, by the number that decides early and the place of its key.
+module _ (c : Asked) (act : Act ℕ) (number : ℕ) (numbered : number_in_ring act ≡ leb number 4095) where
   abbrev e : Event ℕ
-  e = event_of (key c) c.time act (before c) (had c)
+  e = event_of c.key c.time act (before c) (had c)
 
-  passes : judgement c number ≡ 0 → Passed e.lent number c.priority
-  passes = judged_passed e.lent number c.priority
+  passes : judgement c number ≡ 0 → Passed e.lent number c.key.priority
+  passes = judged_passed e.lent number c.key.priority
 
-  -- a call that goes nowhere
-  early : (n : ℕ) (given : Answer) → judgement c number ≡ n → (n ≡ 0 → ⊥) → Says n 0 0 0 0 given → Did e (before c) (before c) (had c) (had c) given
-  early n given j ne plain = refused_did e (before c) (had c) n given (early_refused (before c) (had c) (key c) c.time act number numbered n j ne) plain
+  -- a call that goes nowhere, and the exit at which it hands on what refused it
+  stopped : (why : Refused) → outcome window (table_of (before c)) e ≡ refused (number_of why) → (result : Result Answer Refused)
+      → IsErrAnd result (λ d. d ≡ why) → Did e (before c) (before c) (had c) (had c) (told result)
+  stopped why is result gives =
+      let out = err_from_is_err_and result gives in
+      rw (out.1, out.2) (refused_did e (before c) (had c) why is)
 
-  module _ (nothing : (judgement c number ≡ 0) × (place_for c.keys (key c) ≡ Nothing)) where
-    passed : Passed e.lent number c.priority
-    passed = passes nothing.0
+  early : (why : Refused) → (judgement c number ≡ number_of why) × (number_of why ≡ 0 → ⊥) → outcome window (table_of (before c)) e ≡ refused (number_of why)
+  early why p = early_refused (before c) (had c) c.key c.time act number numbered (number_of why) p.0 p.1
 
-    unfound : first_place (λ i. is_of (key c) (place_at (before c) i)) ≡ Nothing
-    unfound = sym (place_is (before c) (key c) (leb-true c.priority 7 passed.priority)) ∙ nothing.1
+  module _ (passed-early : judgement c number ≡ 0) (none : place c ≡ None) where
+    passed : Passed e.lent number c.key.priority
+    passed = passes passed-early
 
-    unknown : is_data act ≡ false → (n : ℕ) (given : Answer) → n ≡ 4 → Says n 0 0 0 0 given → Did e (before c) (before c) (had c) (had c) given
-    unknown other n given four plain =
-        refused_did e (before c) (had c) n given
-        (unknown_refused (before c) (had c) (key c) c.time act number numbered passed unfound other ∙ ap refused (sym four)) plain
+    unfound : first_place (λ i. is_of c.key (place_at (before c) i)) ≡ None
+    unfound = sym (place_is (before c) c.key (leb-true c.key.priority 7 passed.priority)) ∙ none
 
-    full : is_data act ≡ true → (n : ℕ) (given : Answer) → first_place (stores_none c.keys) ≡ Nothing → n ≡ 5 → Says n 0 0 0 0 given
-        → Did e (before c) (before c) (had c) (had c) given
-    full frames n given taken five plain =
-        refused_did e (before c) (had c) n given
-        (full_refused (before c) (had c) (key c) c.time act number numbered passed unfound frames (sym (spare_is (before c)) ∙ taken)
-        ∙ ap refused (sym five)) plain
+    unknown : is_data act ≡ false → (why : Refused) → number_of why ≡ 4 → outcome window (table_of (before c)) e ≡ refused (number_of why)
+    unknown other why four =
+        unknown_refused (before c) (had c) c.key c.time act number numbered passed unfound other ∙ ap refused (sym four)
 
-  pub turned_did : is_data act ≡ false → (w : Way) (n : ℕ) (given : Answer) → w ≡ way c number → w ≡ Way.Refused n → Says n 0 0 0 0 given
-      → Did e (before c) (before c) (had c) (had c) given
-  turned_did other w n given by to plain =
-      ⊎_elim (λ p. early n given p.0 (λ z. p.1 (p.0 ∙ z)) plain) (λ p. unknown (p.0, p.1) other n given p.2 plain)
-      (refused_way (judgement c number) (place_for c.keys (key c)) n (sym by ∙ to))
+    full : is_data act ≡ true → (why : Refused) → spare c ≡ None → number_of why ≡ 5 → outcome window (table_of (before c)) e ≡ refused (number_of why)
+    full frames why taken five =
+        full_refused (before c) (had c) c.key c.time act number numbered passed unfound frames (sym (spare_is (before c)) ∙ taken)
+        ∙ ap refused (sym five)
 
-  -- a call that goes to the place of its channel
-  pub goes : (w : Way) (i : ℕ) → w ≡ way c number → w ≡ Way.Known i → Goes c i
-  goes w i by to =
-      let at = known_way (judgement c number) (place_for c.keys (key c)) i (sym by ∙ to) in
-      let sized =
-      whole_sizes (length c.keys) (length c.words) (length c.handles) (length c.marks) (lent_whole e.lent (passes at.0).lent) in
-      record {
-        here = within c.keys c.words c.handles c.marks (had c) (key c) c.time act number numbered (passes at.0) i at.1;
-        keys_sized = sized.keys;
-        words_sized = sized.words;
-        handles_sized = sized.handles;
-        marks_sized = sized.marks;
-      }
+  -- a call that goes to place i, where its channel is
+  module _ (i : ℕ) (at : (judgement c number ≡ 0) × (place c ≡ Some i)) where
+    went : Goes c i
+    went =
+        let sized =
+        whole_sizes (length c.keys) (length c.words) (length c.handles) (length c.marks) (lent_whole e.lent (passes at.0).lent) in
+        record {
+          here = within c.keys c.words c.handles c.marks (had c) c.key c.time act number numbered (passes at.0) i at.1;
+          keys_sized = sized.keys;
+          words_sized = sized.words;
+          handles_sized = sized.handles;
+          marks_sized = sized.marks;
+        }
 
-  went_did : (w : Way) (i : ℕ) (keys : List ℕ) (p : Parts) (has : Buffers) (given : Answer) → w ≡ way c number → w ≡ Way.Known i
-      → Back c i p → Called act c.time (lent_parts c i) p (had c) has given
-      → KeysAfter (rule_at (parts_at i (before c)) (had c) c.time act).change i c.keys keys → Did e (before c) (after c i keys p) (had c) has given
-  went_did w i keys p has given by to back call keyed-after =
-      let at = known_way (judgement c number) (place_for c.keys (key c)) i (sym by ∙ to) in
-      known_did c.keys c.words c.handles c.marks (had c) (key c) c.time act number numbered (passes at.0) i at.1
-      keys p.words p.handles p.marks has given back.words back.handles back.marks call keyed-after
+    went_did : (keys : List ℕ) (p : Parts) (has : Buffers) (given : Told) → Back c i p → Called act c.time (lent_parts c i) p (had c) has given
+        → KeysAfter (rule_at (parts_at i (before c)) (had c) c.time act).change i c.keys keys → Did e (before c) (after c i keys p) (had c) has given
+    went_did keys p has given back call keyed-after =
+        known_did c.keys c.words c.handles c.marks (had c) c.key c.time act number numbered (passes at.0) i at.1
+        keys p.words p.handles p.marks has given back.words back.handles back.marks call keyed-after
+
+    went_kept : is_close act ≡ false → (p : Parts) (has : Buffers) (given : Told) → Back c i p → Called act c.time (lent_parts c i) p (had c) has given
+        → Did e (before c) (after c i c.keys p) (had c) has given
+    went_kept stays p has given back call =
+        went_did c.keys p has given back call (keys_stay i c.keys (parts_at i (before c)) (had c) c.time act stays)
+
+-- An event that goes by `way_of`, which is handed the lengths of what the call is lent, and its key as it is stored.
+module _ (c : Asked) (act : Act ℕ) (number : ℕ) (numbered : number_in_ring act ≡ leb number 4095) {l : Lengths} {k : StoredKey}
+    (lengths : l ≡ lengths_of c.words c.handles c.marks c.up c.returned c.nack) (stored : k ≡ words_of c.key) where
+  said : (r : Result ℕ Refused) → WaySays c number l k r → way_says r ≡ way_for (lent_now c) number c.key.priority (place c)
+  said r says = way_of_stored (lent_now c) number c.keys c.key k stored r (rw lengths at says)
+
+  known : (i : ℕ) → WaySays c number l k (Ok i) → (judgement c number ≡ 0) × (place c ≡ Some i)
+  known i says = way_known (lent_now c) number c.key.priority (place c) i (said (Ok i) says)
+
+  pub turned_did : is_data act ≡ false → (why : Refused) → WaySays c number l k (Err why) → (result : Result Answer Refused)
+      → IsErrAnd result (λ d. d ≡ why) → Call c.key c.time act (before c) (before c) (had c) (had c) (told result)
+  turned_did other why says =
+      stopped c act number numbered why
+      (⊎_elim (early c act number numbered why) (λ p. unknown c act number numbered p.0 p.1 other why p.2)
+      (way_refused (lent_now c) number c.key.priority (place c) why (said (Err why) says)))
+
+  pub goes : (i : ℕ) → WaySays c number l k (Ok i) → Goes c i
+  goes i says = went c act number numbered i (known i says)
 
   -- an event that keeps its channel
-  pub kept_did : is_close act ≡ false → (w : Way) (i : ℕ) (p : Parts) (has : Buffers) (given : Answer) → w ≡ way c number → w ≡ Way.Known i
-      → Back c i p → Called act c.time (lent_parts c i) p (had c) has given → Did e (before c) (after c i c.keys p) (had c) has given
-  kept_did stays w i p has given by to back call =
-      went_did w i c.keys p has given by to back call (keys_stay i c.keys (parts_at i (before c)) (had c) c.time act stays)
+  pub kept_did : is_close act ≡ false → (i : ℕ) → WaySays c number l k (Ok i) → (p : Parts) (has : Buffers) (given : Told) → Back c i p
+      → Called act c.time (lent_parts c i) p (had c) has given → Call c.key c.time act (before c) (after c i c.keys p) (had c) has given
+  kept_did stays i says = went_kept c act number numbered i (known i says) stays
 
--- a close, whose place's key goes with the number that the call on the place gave
-pub closed_did : (c : Told) (w : Way) (i : ℕ) (keys : List ℕ) (p : Parts) (has : Buffers) (given : Answer) → w ≡ way c 0 → w ≡ Way.Known i
-    → Back c i p → Called close c.time (lent_parts c i) p (had c) has given → keys ≡ cond (eqb given.number 0) (keyed c.keys i 0 0) c.keys
-    → Call (key c) c.time close (before c) (after c i keys p) (had c) has given
-closed_did c w i keys p has given by to back call freed-keys =
-    let there : Called close c.time (parts_at i (before c)) p (had c) has given =
-    rw (lent_part place_words i c.words, lent_part slots i c.handles, lent_part slots i c.marks) at call in
-    went_did c close 0 refl w i keys p has given by to back call
-    (rw (freed-keys, there.answer.number) (keys_freed i c.keys (parts_at i (before c)) (had c) c.time))
+-- A close: the place's key goes where the call on the place accepts it, and stays where that refuses it.
+module _ (c : Asked) {l : Lengths} {k : StoredKey} (lengths : l ≡ lengths_of c.words c.handles c.marks c.up c.returned c.nack)
+    (stored : k ≡ words_of c.key) (i : ℕ) (says : WaySays c 0 l k (Ok i)) where
+  at : (judgement c 0 ≡ 0) × (place c ≡ Some i)
+  at = known c close 0 refl lengths stored i says
 
--- data, by its ways
-module _ (c : Told) (number handle : ℕ) where
-  pub data_goes : (w : DataWay) (i : ℕ) → w ≡ data_way c number → w ≡ DataWay.Known i → Goes c i
-  data_goes w i by to =
-      goes c (frame number handle) number refl (way c number) i refl (data_way_known (way c number) (first_place (stores_none c.keys)) i (sym by ∙ to))
+  there : (p : Parts) (has : Buffers) (given : Told) → Called close c.time (lent_parts c i) p (had c) has given
+      → Called close c.time (parts_at i (before c)) p (had c) has given
+  there p has given call = rw (lent_part place_words i c.words, lent_part slots i c.handles, lent_part slots i c.marks) at call
 
-  pub data_kept_did : (w : DataWay) (i : ℕ) (p : Parts) (has : Buffers) (given : Answer) → w ≡ data_way c number → w ≡ DataWay.Known i
-      → Back c i p → Called (frame number handle) c.time (lent_parts c i) p (had c) has given
-      → Call (key c) c.time (frame number handle) (before c) (after c i c.keys p) (had c) has given
-  data_kept_did w i p has given by to back call =
-      kept_did c (frame number handle) number refl refl (way c number) i p has given refl
-      (data_way_known (way c number) (first_place (stores_none c.keys)) i (sym by ∙ to)) back call
+  pub closed_did : (keys : List ℕ) (p : Parts) (has : Buffers) (given : Answer) → Back c i p
+      → Called close c.time (lent_parts c i) p (had c) has (told (Ok given)) → keys ≡ keyed c.keys i 0 0
+      → Call c.key c.time close (before c) (after c i keys p) (had c) has (told (Ok given))
+  closed_did keys p has given back call freed =
+      let zero = (there p has (told (Ok given)) call).answer.number in
+      went_did c close 0 refl i at keys p has (told (Ok given)) back call
+      (rw freed (keys_freed i c.keys (parts_at i (before c)) (had c) c.time (sym zero)))
 
-  pub data_turned_did : (w : DataWay) (n : ℕ) (given : Answer) → w ≡ data_way c number → w ≡ DataWay.Refused n → Says n 0 0 0 0 given
-      → Call (key c) c.time (frame number handle) (before c) (before c) (had c) (had c) given
-  data_turned_did w n given by to plain =
-      ⊎_elim
-      (λ p. ⊎_elim (λ q. early c (frame number handle) number refl n given q.0 (λ z. q.1 (q.0 ∙ z)) plain) (λ q. absurd (p.1 q.2))
-      (refused_way (judgement c number) (place_for c.keys (key c)) n p.0))
-      (λ p. full c (frame number handle) number refl
-      (unknown_way (event_of (key c) c.time tick (before c) (had c)).lent number c.priority (place_for c.keys (key c)) 4 p.0 refl)
-      refl n given p.1 p.2 plain)
-      (data_way_refused (way c number) (first_place (stores_none c.keys)) n (sym by ∙ to))
+  pub close_refused_did : (p : Parts) (has : Buffers) (why : Refused) → Back c i p
+      → Called close c.time (lent_parts c i) p (had c) has (told (Err why)) → (result : Result Answer Refused) → IsErrAnd result (λ d. d ≡ why)
+      → Call c.key c.time close (before c) (after c i c.keys p) (had c) has (told result)
+  close_refused_did p has why back call result gives =
+      let out = err_from_is_err_and result gives in
+      let number = (there p has (told (Err why)) call).answer.number in
+      rw (out.1, out.2)
+      (went_did c close 0 refl i at c.keys p has (told (Err why)) back call
+      (keys_kept i c.keys (parts_at i (before c)) (had c) c.time (λ zero. no_zero why (number ∙ zero))))
 
-  -- data whose key has no channel, and for which a place is free
-  module _ (w : DataWay) (i : ℕ) (by : w ≡ data_way c number) (to : w ≡ DataWay.Free i) where
-    free_way : (way c number ≡ Way.Refused 4) × (first_place (stores_none c.keys) ≡ At i)
-    free_way = data_way_free (way c number) (first_place (stores_none c.keys)) i (sym by ∙ to)
+-- Data goes by `data_way_of`.
+module _ (c : Asked) (number handle : ℕ) {l : Lengths} {k : StoredKey}
+    (lengths : l ≡ lengths_of c.words c.handles c.marks c.up c.returned c.nack) (stored : k ≡ words_of c.key) where
+  data_said : (r : Result DataPlace Refused) → DataWaySays c number l k r
+      → data_way_says r ≡ data_way_for (lent_now c) number c.key.priority (place c) (spare c)
+  data_said r says = data_way_of_stored (lent_now c) number c.keys c.key k stored r (rw lengths at says)
 
-    abbrev lent_now_law : Lent
-    lent_now_law = (event_of (key c) c.time (frame number handle) (before c) (had c)).lent
+  pub data_turned_did : (why : Refused) → DataWaySays c number l k (Err why) → (result : Result Answer Refused) → IsErrAnd result (λ d. d ≡ why)
+      → Call c.key c.time (frame number handle) (before c) (before c) (had c) (had c) (told result)
+  data_turned_did why says =
+      stopped c (frame number handle) number refl why
+      (⊎_elim (early c (frame number handle) number refl why) (λ p. full c (frame number handle) number refl p.0 p.1 refl why p.2 p.3)
+      (data_refused (lent_now c) number c.key.priority (place c) (spare c) why (data_said (Err why) says)))
 
-    absent : (judgement c number ≡ 0) × (place_for c.keys (key c) ≡ Nothing)
-    absent = unknown_way lent_now_law number c.priority (place_for c.keys (key c)) 4 free_way.0 refl
+  module _ (way : DataPlace) (i : ℕ) (says : DataWaySays c number l k (Ok way)) where
+    to : {there : DataPlace} → way ≡ there → data_way_says (Ok there) ≡ data_way_for (lent_now c) number c.key.priority (place c) (spare c)
+    to is = ap (λ (x : DataPlace). data_way_says (Ok x)) (sym is) ∙ data_said (Ok way) says
 
-    right : Passed lent_now_law number c.priority
-    right = judged_passed lent_now_law number c.priority absent.0
+    data_known_at : way ≡ Known i → (judgement c number ≡ 0) × (place c ≡ Some i)
+    data_known_at is = data_known (lent_now c) number c.key.priority (place c) (spare c) i (to is)
 
-    -- what `open_at` asks
-    pub ready : (length c.keys ≡ table_keys) × (length c.words ≡ table_words) × (window ≤ length c.up) × (i < places)
-    ready =
-        let sized = whole_sizes (length c.keys) (length c.words) (length c.handles) (length c.marks) (lent_whole lent_now_law right.lent) in
-        (sized.keys, sized.words, (lent_room lent_now_law right.lent).up, omega (arith, (finds (stores_none c.keys) places 0 i free_way.1).high))
+    pub data_goes : way ≡ Known i → Goes c i
+    data_goes is = went c (frame number handle) number refl i (data_known_at is)
 
-    pub opening_did : (first second : ℕ) (keys words up : List ℕ) (given : Answer) → first ≡ first_word (key c) → second ≡ (key c).source
-        → Opens i first second number handle c.time c.keys c.words c.up keys words up given
-        → Call (key c) c.time (frame number handle) (before c) (slices keys words c.handles c.marks) (had c)
-        (buffers up c.returned c.nack) given
-    opening_did first second keys words up given one two opens =
-        rw (opens.key, one, two)
-        (opened_did c.keys c.words c.handles c.marks c.up c.returned c.nack (key c) c.time number handle right absent.1 i
-        free_way.1 (rw (opens.key, one, two) at opens))
+    pub data_kept_did : way ≡ Known i → (p : Parts) (has : Buffers) (given : Told) → Back c i p
+        → Called (frame number handle) c.time (lent_parts c i) p (had c) has given
+        → Call c.key c.time (frame number handle) (before c) (after c i c.keys p) (had c) has given
+    data_kept_did is = went_kept c (frame number handle) number refl i (data_known_at is) refl
+
+    -- data whose key has no channel, and for which a place is free
+    module _ (is : way ≡ Free i) where
+      free : (judgement c number ≡ 0) × (place c ≡ None) × (spare c ≡ Some i)
+      free = data_free (lent_now c) number c.key.priority (place c) (spare c) i (to is)
+
+      right : Passed (lent_now c) number c.key.priority
+      right = judged_passed (lent_now c) number c.key.priority free.0
+
+      -- what `open_at` asks
+      pub ready : (length c.keys ≡ table_keys) × (length c.words ≡ table_words) × (window ≤ length c.up) × (i < places)
+      ready =
+          let sized = whole_sizes (length c.keys) (length c.words) (length c.handles) (length c.marks) (lent_whole (lent_now c) right.lent) in
+          (sized.keys, sized.words, (lent_room (lent_now c) right.lent).up, omega (arith, (finds (stores_none c.keys) places 0 i free.2).high))
+
+      pub opening_did : (keys words up : List ℕ) (given : Answer)
+          → Opens i k.first k.second number handle c.time c.keys c.words c.up keys words up given
+          → Call c.key c.time (frame number handle) (before c) (slices keys words c.handles c.marks) (had c) (buffers up c.returned c.nack) (told (Ok given))
+      opening_did keys words up given opens =
+          let there : Opens i (first_word c.key) c.key.source number handle c.time c.keys c.words c.up keys words up given = rw stored at opens in
+          rw there.key
+          (opened_did c.keys c.words c.handles c.marks c.up c.returned c.nack c.key c.time number handle right free.1 i free.2 (rw there.key at there))

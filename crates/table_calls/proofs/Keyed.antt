@@ -1,17 +1,16 @@
 -- The keys after the two words of one place's key are stored: that place stores the key, and every other place's words stay. Assumes nothing.
 use Prim.Native.Nat.{ℕ, ◌+◌, ◌*◌, ◌<◌}
-use mathlib.Core.Path.{◌≡◌, refl, ◌∙◌}
+use mathlib.Core.Path.{◌≡◌, ◌∙◌}
 use mathlib.Core.Bool.{true}
 use mathlib.Core.List.{List, [], ◌∷◌}
 use native.Mathlib.Omega.{arith}
 use native.Mathlib.Numerals.{add-one}
-use borrow.Author.Tests.{eq-eqb}
-use lib.ListN.{length, get_or, set, length-set}
-use lib.Seq.{get_or-set_same, get_or-set_other}
+use lib.ListN.{length, set, length-set}
 use Rattle.table.specs.Key.{key_words}
 use Rattle.table.specs.First.{places, stores}
 use Rattle.table.specs.Table.{part, table_keys}
 use Rattle.table_calls.specs.Writes.{keyed}
+use Rattle.std.proofs.lemmas.Grind.{common_steps}
 use Rattle.table.proofs.Parts.{part_set_else, set_pair}
 
 module _ (keys : List ℕ) (i first second : ℕ) (l : length keys ≡ table_keys) (h : i < places) where
@@ -23,11 +22,7 @@ module _ (keys : List ℕ) (i first second : ℕ) (l : length keys ≡ table_key
   keyed_part = rw (add-one (key_words * i)) (set_pair (key_words * i) keys first second (omega arith))
 
   pub keyed_stores : stores (keyed keys i first second) first second i ≡ true
-  keyed_stores =
-      let one : get_or (keyed keys i first second) (key_words * i) 0 ≡ first =
-      get_or-set_other (set keys (key_words * i) first) (key_words * i + 1) (key_words * i) second 0 (λ q. omega arith) ∙ get_or-set_same keys (key_words * i) first 0 (omega arith) in
-      let two : get_or (keyed keys i first second) (key_words * i + 1) 0 ≡ second = get_or-set_same (set keys (key_words * i) first) (key_words * i + 1) second 0 (omega (arith, half)) in
-      rw (one, two, eq-eqb first first refl, eq-eqb second second refl)
+  keyed_stores = grind (arith, common_steps)
 
   pub keyed_else : (j : ℕ) → (j ≡ i → ⊥) → part key_words j (keyed keys i first second) ≡ part key_words j keys
   keyed_else j ne =

@@ -13,15 +13,14 @@ use Rattle.larq.specs.Answer.{Change, same, holds, freed, Outcome}
 use Rattle.larq.specs.Events.{Act}
 use Rattle.larq.specs.Table.{Key, free, held, Event, number_in_ring, outcome, step}
 use Rattle.slots.specs.Slots.{slots, place_words, place_sized}
-use Rattle.place.specs.Call.{Parts, parts, Buffers, Became, rule_at, Called}
-use Rattle.place.specs.declared.Answer.{Answer}
+use Rattle.place.specs.Call.{Parts, parts, Buffers, Told, Became, rule_at, Called}
 use Rattle.table.specs.First.{places, first_place, stores}
 use Rattle.table.specs.Key.{first_word, key_words}
 use Rattle.table.specs.Table.{Slices, slices, part, at_place, place_of, place_at, table_of, zeros}
 use Rattle.table.specs.Way.{place_for}
 use Rattle.table.specs.Addressed.{is_of, addressed}
 use Rattle.table_calls.specs.Event.{event_of, Changed, Did}
-use Rattle.table.specs.declared.lookup.Found.TheVariants.{At}
+use Rattle.std.specs.Prelude.{Some}
 use Rattle.table.proofs.Parts.{put, lent, lent_part, length_part, part_put, part_put_else, put_part}
 use Rattle.table.proofs.Places.{Finds, finds}
 use Rattle.table.proofs.Stored.{own_place, place_is, zeros_free}
@@ -31,7 +30,7 @@ use Rattle.table_calls.proofs.Keyed.{keyed_part}
 use Rattle.table_calls.proofs.Promised.{table_but, KeysAfter, keys_else}
 
 module _ (keys W H M : List ℕ) (b : Buffers) (k : Key) (time : ℕ) (act : Act ℕ) (number : ℕ) (numbered : number_in_ring act ≡ leb number 4095)
-    (passed : Passed (event_of k time act (slices keys W H M) b).lent number k.priority) (i : ℕ) (found : place_for keys k ≡ At i) where
+    (passed : Passed (event_of k time act (slices keys W H M) b).lent number k.priority) (i : ℕ) (found : place_for keys k ≡ Some i) where
   abbrev before : Slices
   before = slices keys W H M
 
@@ -53,10 +52,10 @@ module _ (keys W H M : List ℕ) (b : Buffers) (k : Key) (time : ℕ) (act : Act
   pub within : i < places
   within = omega (arith, stored.high)
 
-  known : first_place (λ j. is_of k (place_at before j)) ≡ At i
+  known : first_place (λ j. is_of k (place_at before j)) ≡ Some i
   known = sym (place_is before k fits) ∙ found
 
-  here : addressed k before ≡ At i
+  here : addressed k before ≡ Some i
   here = rw known
 
   words_fit : place_words * i + place_words ≤ length W
@@ -77,7 +76,7 @@ module _ (keys W H M : List ℕ) (b : Buffers) (k : Key) (time : ℕ) (act : Act
   is_rule : outcome window (table_of before) e ≡ rule
   is_rule = known_rule before b k time act number numbered passed i known own lengths
 
-  module _ (keys' w h m : List ℕ) (b' : Buffers) (given : Answer) (lw : length w ≡ place_words) (lh : length h ≡ slots) (lm : length m ≡ slots) where
+  module _ (keys' w h m : List ℕ) (b' : Buffers) (given : Told) (lw : length w ≡ place_words) (lh : length h ≡ slots) (lm : length m ≡ slots) where
     abbrev after : Slices
     after = slices keys' (put place_words i W w) (put slots i H h) (put slots i M m)
 
@@ -100,7 +99,7 @@ module _ (keys W H M : List ℕ) (b : Buffers) (k : Key) (time : ℕ) (act : Act
       -- the three changes, each with what it makes of the table and of the place
       pub record Done (change : Change ℕ) : Type 0 where
         pub stepped : table_of after ≡ step window (table_of before) e
-        pub changed : Changed change (At i) k before after
+        pub changed : Changed change (Some i) k before after
 
       done : (change : Change ℕ) → rule.change ≡ change → KeysAfter change i keys keys' → Became change (parts_at i before) (parts w h m) → Done change
       unfolding step
@@ -128,7 +127,7 @@ module _ (keys W H M : List ℕ) (b : Buffers) (k : Key) (time : ℕ) (act : Act
           }
 
   -- the call on one place, with the parts as they are lent and come back
-  pub known_did : (keys' w h m : List ℕ) (b' : Buffers) (given : Answer)
+  pub known_did : (keys' w h m : List ℕ) (b' : Buffers) (given : Told)
       → length w ≡ length (lent place_words i W) → length h ≡ length (lent slots i H) → length m ≡ length (lent slots i M)
       → Called act time (parts (lent place_words i W) (lent slots i H) (lent slots i M)) (parts w h m) b b' given → KeysAfter rule.change i keys keys'
       → Did e before (slices keys' (put place_words i W w) (put slots i H h) (put slots i M m)) b b' given
@@ -142,5 +141,5 @@ module _ (keys W H M : List ℕ) (b : Buffers) (k : Key) (time : ℕ) (act : Act
         answer = rw is_rule c.answer;
         stepped = d.stepped;
         changed = rw (is_rule, here) d.changed;
-        elsewhere = λ j _ ne. elsewhere keys' w h m b' given lw lh lm after-keys j (λ q. ne (here ∙ ap At (sym q)));
+        elsewhere = λ j _ ne. elsewhere keys' w h m b' given lw lh lm after-keys j (λ q. ne (here ∙ ap Some (sym q)));
       }

@@ -10,13 +10,13 @@ use native.Mathlib.Omega.{arith}
 use lib.ListN.{length, get_or}
 use lib.Dec.{eqb}
 use Rattle.ring.specs.Ring.{forward, steps, Side, Ahead, Behind, Far}
-use Rattle.ring.proofs.Sides.{Seen, sees}
+use Rattle.ring.proofs.Sides.{sees}
 use Rattle.larq.specs.Channel.{Cell, Channel, window, reach, span_of, span, sound}
 use Rattle.larq.specs.Answer.{holds, Outcome}
 use Rattle.larq.specs.Events.{Act, frame, reminder, tick, close, filling, filled, data_on, reminder_on, side_of, act_on}
 use Rattle.larq.specs.Table.{Key, free, held, same_key, Table, channels, room, Event, one, outcome}
 use Rattle.larq.specs.Demands.{is_close, restarts, UpFirst}
-use Rattle.larq.specs.Moving.{entered, made, ahead_by, Moves, Bounded}
+use Rattle.larq.specs.Moving.{entered, made, Moves, Bounded}
 use Rattle.larq.proofs.Cases.{Passes, one_case, accepted_passes}
 use Rattle.larq.proofs.Sound.{Good, Joined, sound_is}
 use Rattle.larq.proofs.Moved.{moves, none_given_up}
@@ -26,8 +26,7 @@ use Rattle.slots.specs.Slots.{current_in, oldest_in}
 use Rattle.record.specs.Place.{cell_at, record_with, record_of}
 use Rattle.record.proofs.Rounds.{span_end}
 use Rattle.record.proofs.Windows.{length_cells_from}
-use Rattle.place.specs.Call.{Buffers}
-use Rattle.place.specs.declared.Answer.{Answer}
+use Rattle.place.specs.Call.{Buffers, Told}
 use Rattle.table.specs.First.{places}
 use Rattle.table.specs.Table.{Slices, at_place, place_of, places_from, table_of}
 use Rattle.table_calls.specs.Event.{Did}
@@ -74,18 +73,7 @@ module _ (k : Key) where
 
 -- the numbers that an event makes missing are within the reach
 made_near : (c : Channel ℕ) (a : Act ℕ) → made window c a ≤ reach window
-made_near c = go
-  where
-    near : (s : ℕ) (x : Side) → Seen (reach window) c.current s x → ahead_by x ≤ reach window
-    near s (Ahead d) q = q.near
-    near s (Behind d) q = omega arith
-    near s Far q = omega arith
-
-    go : (a : Act ℕ) → made window c a ≤ reach window
-    go (frame s h) = omega (arith, near s (side_of window c s) (sees (reach window) c.current s (omega arith)))
-    go (reminder s) = near s (side_of window c s) (sees (reach window) c.current s (omega arith))
-    go tick = omega arith
-    go close = omega arith
+made_near c a = grind (arith, sees)
 
 -- an event that is no close leaves a record
 module _ (c : Channel ℕ) (t : ℕ) where
@@ -174,7 +162,7 @@ lent_bounded s e = go (channels e.key (table_of s)) refl
         (bounded window (omega arith) (omega arith) (room (table_of s)) (c ∷ []) e (passes_good s e c cs first p, tt))) refl
 
 -- the counts that a call gives the host keep the same bounds.
-pub counts_bounded : (e : Event ℕ) (before after : Slices) (had has : Buffers) (given : Answer) → Did e before after had has given
+pub counts_bounded : (e : Event ℕ) (before after : Slices) (had has : Buffers) (given : Told) → Did e before after had has given
     → (given.up ≤ window) × (given.returned ≤ 31) × (given.nack ≤ window)
 counts_bounded e before after had has given d =
     let most = lent_bounded before e in (

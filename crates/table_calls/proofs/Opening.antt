@@ -4,6 +4,7 @@ use Prim.Native.Nat.{ℕ, ◌+◌, ◌*◌, ◌≤◌, ◌<◌}
 use mathlib.Core.Path.{◌≡◌, refl, ap, sym, ◌∙◌}
 use mathlib.Core.List.{List, [], ◌∷◌}
 use native.Mathlib.Omega.{arith}
+use Rattle.std.proofs.lemmas.Grind.{common_steps}
 use borrow.Author.Tests.{leb-true}
 use lib.ListN.{length, set, drop}
 use Rattle.larq.specs.Channel.{window}
@@ -12,7 +13,7 @@ use Rattle.larq.specs.Events.{frame, opened}
 use Rattle.larq.specs.Table.{Key, held, Event, outcome}
 use Rattle.slots.specs.Slots.{slots, place_words}
 use Rattle.record.specs.Place.{record_of}
-use Rattle.place.specs.Call.{Begins, buffers}
+use Rattle.place.specs.Call.{Begins, buffers, told}
 use Rattle.place.specs.declared.Answer.{Answer}
 use Rattle.table.specs.First.{places, first_place, stores_none}
 use Rattle.table.specs.Key.{first_word}
@@ -21,7 +22,7 @@ use Rattle.table.specs.Way.{place_for}
 use Rattle.table_calls.specs.Writes.{keyed, Opens}
 use Rattle.table.specs.Addressed.{is_of, is_free, addressed}
 use Rattle.table_calls.specs.Event.{event_of, Did}
-use Rattle.table.specs.declared.lookup.Found.TheVariants.{At, Nothing}
+use Rattle.std.specs.Prelude.{Some, None, Ok}
 use Rattle.table.proofs.Parts.{put, lent, lent_part, length_part, length_lent, part_put, part_put_else}
 use Rattle.table_calls.proofs.Keyed.{keyed_stores, keyed_else}
 use Rattle.table.proofs.Places.{finds}
@@ -29,7 +30,8 @@ use Rattle.place.proofs.Restarting.{record_opened}
 use Rattle.table.proofs.Stored.{own_place, place_is, spare_is}
 use Rattle.table.proofs.Ways.{Passed, Whole, whole_sizes, lent_whole, lent_room}
 use Rattle.table_calls.proofs.Ruled.{opens, opens_step}
-use Rattle.table_calls.proofs.Promised.{table_but, wrote_none}
+use Rattle.record.proofs.Laying.{wrote_none}
+use Rattle.table_calls.proofs.Promised.{table_but}
 
 -- a channel that begins in the lent part of place i, when the part has come back
 pub opened_part : {words up y u : List ℕ} {s handle time : ℕ} {given : Answer} (keys : List ℕ) (i first second : ℕ) → length words ≡ table_words → i < places
@@ -47,7 +49,7 @@ opened_part {words} {y = y} keys i first second sized within kept begins =
 -- data that opens a channel
 module _ (keys W H M U R N : List ℕ) (k : Key) (time s handle : ℕ)
     (passed : Passed (event_of k time (frame s handle) (slices keys W H M) (buffers U R N)).lent s k.priority)
-    (unknown : place_for keys k ≡ Nothing) (i : ℕ) (found : first_place (stores_none keys) ≡ At i) where
+    (unknown : place_for keys k ≡ None) (i : ℕ) (found : first_place (stores_none keys) ≡ Some i) where
   abbrev before : Slices
   before = slices keys W H M
 
@@ -63,13 +65,13 @@ module _ (keys W H M U R N : List ℕ) (k : Key) (time s handle : ℕ)
   within : i < places
   within = omega (arith, (finds (stores_none keys) places 0 i found).high)
 
-  none : first_place (λ j. is_of k (place_at before j)) ≡ Nothing
+  none : first_place (λ j. is_of k (place_at before j)) ≡ None
   none = sym (place_is before k fits) ∙ unknown
 
-  spare : first_place (λ j. is_free (place_at before j)) ≡ At i
+  spare : first_place (λ j. is_free (place_at before j)) ≡ Some i
   spare = sym (spare_is before) ∙ found
 
-  here : addressed k before ≡ At i
+  here : addressed k before ≡ Some i
   here = rw (none, spare)
 
   is_open_law : outcome window (table_of before) e ≡ accepted (handle ∷ []) [] [] 0 (holds (opened s time))
@@ -95,25 +97,24 @@ module _ (keys W H M U R N : List ℕ) (k : Key) (time s handle : ℕ)
       others j _ ne = rw (keyed_else keys i (first_word k) k.source sized.keys within j ne, opened-here.elsewhere j ne)
 
       handed : (l : List ℕ) → window ≤ length l → set l 0 handle ≡ handle ∷ drop 1 l
-      handed [] h = absurd (let z : ⊥ = omega arith in z)
-      handed (x ∷ l) h = refl
+      handed l h = grind (arith, common_steps)
 
-      pub opened_did : Did e before after (buffers U R N) (buffers u R N) given
+      pub opened_did : Did e before after (buffers U R N) (buffers u R N) (told (Ok given))
       opened_did =
           let says = opened-here.begins.answer in
           record {
             answer =
                 rw is_open_law
                 (record {
-                  number = says.number;
+                  number = refl;
                   up = record { count = says.up; buffer = opened-here.begins.frame ∙ handed U (lent_room e.lent passed.lent).up };
-                  returned = wrote_none R given.returned says.returned;
-                  nack = wrote_none N given.nack says.nack;
+                  returned = rw says.returned (wrote_none R);
+                  nack = rw says.nack (wrote_none N);
                   lost = says.lost;
                 });
             stepped =
                 table_but before after i (held k (opened s time)) placed others
                 ∙ sym (opens_step before (buffers U R N) k time (frame s handle) s refl passed none i handle refl spare);
             changed = rw (is_open_law, here) placed;
-            elsewhere = λ j h ne. others j h (λ q. ne (here ∙ ap At (sym q)));
+            elsewhere = λ j h ne. others j h (λ q. ne (here ∙ ap Some (sym q)));
           }

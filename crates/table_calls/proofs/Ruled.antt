@@ -1,37 +1,27 @@
 -- What the rules say of an event on the table that the slices hold, by the way that the event goes: a number before the table is looked at,
 -- no channel, no free place, a channel opened, or the rule for the one place that has the channel. Assumes nothing.
 use Prim.Native.Nat.{ℕ}
-use mathlib.Core.Path.{◌≡◌, ap, sym, ◌∙◌}
-use mathlib.Core.Bool.{Bool, true, false, cond, ◌&&◌}
-use mathlib.Core.List.{List, [], ◌∷◌, ◌++◌}
-use lib.ListN.{length, drop}
+use native.Mathlib.Omega.{arith}
+use mathlib.Core.Path.{◌≡◌, ap, ◌∙◌}
+use mathlib.Core.Bool.{true, false, ◌&&◌}
+use mathlib.Core.List.{[], ◌∷◌}
+use lib.ListN.{length}
 use lib.Dec.{leb}
-use Rattle.wire.specs.Refusals.{Refusal, first, answered}
 use Rattle.larq.specs.Channel.{Channel, window}
 use Rattle.larq.specs.Answer.{holds, freed, refused, accepted}
-use Rattle.larq.specs.Events.{Act, frame, reminder, opened}
-use Rattle.larq.specs.Table.{Key, free, held, Table, Event, channels, room, lent_enough, number_in_ring, is_data, early, refusals, done, one, outcome, step}
+use Rattle.larq.specs.Events.{Act, frame, opened}
+use Rattle.larq.specs.Table.{Key, free, held, Table, Event, channels, lent_enough, number_in_ring, is_data, one, outcome, step}
 use Rattle.slots.specs.Slots.{slots, place_words, place_sized}
 use Rattle.record.specs.Place.{record_of}
 use Rattle.place.specs.Call.{Parts, parts, Buffers, event_at, rule_at}
 use Rattle.table.specs.First.{places, first_place}
 use Rattle.table.specs.Table.{Slices, part, place_at, places_from, table_of}
-use Rattle.table.specs.Way.{event_by, early_number}
+use Rattle.table.specs.Way.{early_number}
 use Rattle.table.specs.Addressed.{is_of, is_free}
 use Rattle.table_calls.specs.Event.{event_of}
-use Rattle.table.specs.declared.lookup.Found.TheVariants.{At, Nothing}
+use Rattle.std.specs.Prelude.{Some, None}
 use Rattle.table.proofs.Places.{but, Begins, channels_found, channels_none, put_open_found, put_free_found, room_found, room_none}
 use Rattle.table.proofs.Ways.{Passed, both}
-
--- the first tests of a list decide where their number is not 0
-decided : {A : Type 0} (refuse : ℕ → A) (l m : List Refusal) (good : A) (n : ℕ) → first l ≡ n → (n ≡ 0 → ⊥) → answered refuse (l ++ m) good ≡ refuse n
-decided refuse [] m good n e ne = absurd (ne (sym e))
-decided refuse (r ∷ l) m good n e ne = go r.passes e (λ q. decided refuse l m good n q ne)
-  where
-    go : (b : Bool) → cond b (first l) r.number ≡ n → (first l ≡ n → answered refuse (l ++ m) good ≡ refuse n)
-        → cond b (answered refuse (l ++ m) good) (refuse r.number) ≡ refuse n
-    go true q later = later q
-    go false q later = ap refuse q
 
 -- the parts of a place, as the call on one place has them
 abbrev pub parts_at : ℕ → Slices → Parts
@@ -49,10 +39,7 @@ module _ (s : Slices) (b : Buffers) (k : Key) (time : ℕ) (act : Act ℕ) (numb
 
   pub early_refused : (n : ℕ) → early_number e.lent number k.priority ≡ n → (n ≡ 0 → ⊥) → outcome window t e ≡ refused n
   unfolding early_number outcome one
-  early_refused n j ne =
-      rw numbered
-      (decided refused (early window (event_by e.lent k.priority (reminder number))) (drop 3 (refusals window (room t) (channels k t) e))
-      (done window (channels k t) time act) n j ne)
+  early_refused n j ne = grind arith
 
   -- the tests of numbers 1 to 3 pass
   module _ (passed : Passed e.lent number k.priority) where
@@ -60,7 +47,7 @@ module _ (s : Slices) (b : Buffers) (k : Key) (time : ℕ) (act : Act ℕ) (numb
     ring = numbered ∙ passed.number
 
     -- no open place has the key
-    module _ (unknown : first_place (λ i. is_of k (place_at s i)) ≡ Nothing) where
+    module _ (unknown : first_place (λ i. is_of k (place_at s i)) ≡ None) where
       none : channels k t ≡ []
       none = channels_none k (place_at s) places 0 unknown
 
@@ -68,11 +55,11 @@ module _ (s : Slices) (b : Buffers) (k : Key) (time : ℕ) (act : Act ℕ) (numb
       unfolding outcome one
       unknown_refused d = rw (none, passed.lent, ring, passed.priority, d)
 
-      pub full_refused : is_data act ≡ true → first_place (λ i. is_free (place_at s i)) ≡ Nothing → outcome window t e ≡ refused 5
+      pub full_refused : is_data act ≡ true → first_place (λ i. is_free (place_at s i)) ≡ None → outcome window t e ≡ refused 5
       unfolding outcome one
       full_refused d full = rw (none, passed.lent, ring, passed.priority, d, room_none (place_at s) places 0 full)
 
-      module _ (i h : ℕ) (frames : act ≡ frame number h) (spare : first_place (λ i. is_free (place_at s i)) ≡ At i) where
+      module _ (i h : ℕ) (frames : act ≡ frame number h) (spare : first_place (λ i. is_free (place_at s i)) ≡ Some i) where
         pub opens : outcome window t e ≡ accepted (h ∷ []) [] [] 0 (holds (opened number time))
         unfolding outcome one
         opens = rw (none, passed.lent, ring, passed.priority, ap is_data frames, room_found (place_at s) places 0 i spare, frames)
@@ -82,7 +69,7 @@ module _ (s : Slices) (b : Buffers) (k : Key) (time : ℕ) (act : Act ℕ) (numb
         opens_step = rw (opens, none) (put_free_found (place_at s) (held k (opened number time)) places 0 i spare)
 
     -- place i has the channel of the key
-    module _ (i : ℕ) (known : first_place (λ i. is_of k (place_at s i)) ≡ At i) (own : place_at s i ≡ held k (record_at i s))
+    module _ (i : ℕ) (known : first_place (λ i. is_of k (place_at s i)) ≡ Some i) (own : place_at s i ≡ held k (record_at i s))
         (sized : place_sized (length (part place_words i s.words)) (length (part slots i s.handles)) (length (part slots i s.marks)) ≡ true) where
       begins : Begins (record_at i s) (channels k t)
       begins = channels_found k (place_at s) k (record_at i s) places 0 i known own

@@ -4,33 +4,20 @@ use Prim.Native.Nat.{ℕ}
 use mathlib.Core.Path.{◌≡◌, refl, ap, ap₂, ◌∙◌}
 use mathlib.Core.List.{List, ◌∷◌}
 use native.Mathlib.Omega.{arith}
-use lib.ListN.{length, take, drop}
-use lib.Seq.{take_at}
+use Rattle.std.proofs.lemmas.Grind.{common_steps}
 use Rattle.larq.specs.Answer as rule
 use Rattle.larq.specs.Channel.{window}
 use Rattle.larq.specs.Table.{Table, Event, outcome}
 use Rattle.larq.specs.Run.{empty, run, answers}
 use Rattle.larq.proofs.Sound.{Tidy, sound_from_empty}
-use Rattle.record.specs.Buffers.{Wrote}
-use Rattle.place.specs.Call.{Buffers, Answered}
-use Rattle.place.specs.declared.Answer.{Answer}
+use Rattle.place.specs.Call.{Buffers, Told, Answered}
 use Rattle.table.specs.Table.{Slices, table_of}
 use Rattle.table_calls.specs.Emptied.{all_zeros}
 use Rattle.table_calls.proofs.Zeroing.{emptied}
 use Rattle.table_calls.specs.Calls.{heard, Calls, none, call}
 
-front : (list before after : List ℕ) (n : ℕ) → Wrote list before after n → take n after ≡ list
-front list before after n w = ap₂ take w.count w.buffer ∙ take_at list (drop (length list) before) (length list) refl
-
-pub heard_is : (o : rule.Outcome ℕ) (had has : Buffers) (given : Answer) → Answered o had has given → heard has given ≡ o.answer
-heard_is o had has given a =
-    λ i. record {
-      number = a.number i;
-      up = front o.answer.up had.up has.up given.up a.up i;
-      returned = front o.answer.returned had.returned has.returned given.returned a.returned i;
-      nack = front o.answer.nack had.nack has.nack given.nack a.nack i;
-      lost = a.lost i;
-    }
+pub heard_is : (o : rule.Outcome ℕ) (had has : Buffers) (given : Told) → Answered o had has given → heard has given ≡ o.answer
+heard_is o had has given a = grind (arith, common_steps)
 
 pub runs : {s x : Slices} {es : List (Event ℕ)} {rs : List (rule.Answer ℕ)} → Calls s es rs x → table_of x ≡ run window (table_of s) es
 runs none = refl

@@ -2,13 +2,12 @@
 use Rattle.std.specs.Prelude.{ℕ, List, [], ◌∷◌, take}
 use Rattle.larq.specs.Answer as rule
 use Rattle.larq.specs.Table.{Event}
-use Rattle.place.specs.Call.{Buffers}
-use Rattle.place.specs.declared.Answer.{Answer}
+use Rattle.place.specs.Call.{Buffers, Told}
 use Rattle.table.specs.Table.{Slices}
 use Rattle.table_calls.specs.Event.{Did}
 
 -- what the host reads: the number, as many entries of each buffer as its count says, and the lost count
-abbrev pub heard : Buffers → Answer → rule.Answer ℕ
+abbrev pub heard : Buffers → Told → rule.Answer ℕ
 heard b given =
     record {
       number = given.number;
@@ -20,5 +19,5 @@ heard b given =
 
 pub data Calls : Slices → List (Event ℕ) → List (rule.Answer ℕ) → Slices → Type 0 where
   none : {s : Slices} → Calls s [] [] s
-  call : {s m x : Slices} {e : Event ℕ} {es : List (Event ℕ)} {rs : List (rule.Answer ℕ)} (had has : Buffers) (given : Answer)
+  call : {s m x : Slices} {e : Event ℕ} {es : List (Event ℕ)} {rs : List (rule.Answer ℕ)} (had has : Buffers) (given : Told)
       → Did e s m had has given → Calls m es rs x → Calls s (e ∷ es) (heard has given ∷ rs) x

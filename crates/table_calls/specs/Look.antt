@@ -1,9 +1,11 @@
 -- What a look at a channel's record tells a host: nothing changes by it. The numbers 1, 3, 4 and 6 of document 01, 'Numbers the box may answer with',
 -- in that order, which is the order of the rules' list (`look_refusals` of proofs/Viewing); else C, M, the latest time, and each number from M to C,
 -- waiting or missing.
-use Rattle.std.specs.Prelude.{ℕ, ◌≡◌, Bool, cond, ◌&&◌, List, [], ◌∷◌, ◌++◌, map, length, drop, leb}
+use Rattle.std.specs.Prelude.{ℕ, ◌≡◌, Bool, cond, ◌&&◌, List, [], ◌∷◌, ◌++◌, map, length, drop, leb, Result, Ok, Err}
 use Rattle.larq.specs.Channel.{window, Cell, waits, missing, Channel, sound}
 use Rattle.larq.specs.Table.{Key, Table, channels, priority_fits}
+use Rattle.larq.specs.Refused.{number_of}
+use Rattle.larq.specs.declared.refused.Refused.{Refused}
 use Rattle.table_calls.specs.Emptied.{whole_slices}
 use Rattle.table.specs.Table.{Slices}
 use Rattle.table_calls.specs.declared.looking.View.{View}
@@ -51,8 +53,21 @@ cell_value (missing t) = t
 abbrev pub Fronts : List ℕ → List ℕ → List ℕ → Type 0
 Fronts list before after = after ≡ list ++ drop (length list) before
 
+-- what a host is told of a look: the number, C, M, the latest time, and how many numbers there are from M to C
+pub record Seen : Type 0 where
+  pub number : ℕ
+  pub current : ℕ
+  pub oldest : ℕ
+  pub latest : ℕ
+  pub span : ℕ
+
+-- the cases of a result: a view has number 0, and a refusal its number and nothing else
+abbrev pub seen : Result View Refused → Seen
+seen (Ok v) = record { number = 0; current = v.current; oldest = v.oldest; latest = v.latest; span = v.span }
+seen (Err e) = record { number = number_of e; current = 0; oldest = 0; latest = 0; span = 0 }
+
 -- the answer to a look
-pub record Looked (shown : Shown) (waited waits valued values : List ℕ) (given : View) : Type 0 where
+pub record Looked (shown : Shown) (waited waits valued values : List ℕ) (given : Seen) : Type 0 where
   pub number : given.number ≡ shown.number
   pub current : given.current ≡ shown.current
   pub oldest : given.oldest ≡ shown.oldest

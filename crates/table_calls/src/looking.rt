@@ -1,59 +1,40 @@
 // A look at a channel's record, for a host or a test: nothing changes by it.
-ghost use Rattle.std.specs.Prelude.{◌≡◌, ◌≤◌, [], map, length};
+ghost use Rattle.std.specs.Prelude.{◌≡◌, ◌≤◌, map, length};
 ghost use Rattle.std.proofs.lemmas.List.Edits.{sets};
 ghost use Rattle.larq.specs.Channel.{window};
-ghost use Rattle.slots.specs.Slots.{slots, place_words, slot_of};
+ghost use Rattle.slots.specs.Slots.{slots, place_words};
 ghost use Rattle.record.specs.Place.{cells_from, cell_at, record_of};
-ghost use Rattle.table.specs.Key.{key_of};
+ghost use Rattle.record.specs.Cell.{cell_of};
+ghost use Rattle.table.specs.Words.{key_in};
 ghost use Rattle.table.specs.Table.{slices, table_of};
-ghost use Rattle.table_calls.specs.Look.{shown_at, shown_of, lent_for, cell_mark, cell_value, Looked};
+ghost use Rattle.table_calls.specs.Look.{shown_at, shown_of, lent_for, cell_mark, cell_value, Looked, seen};
 
+use larq::Refused;
+use record::{Cell, Lengths};
 use ring::Seq;
-use slots::{handle_of, is_missing, time_of};
-use table::{SLOTS, WORDS, Way, address, first_word, way_of};
+use table::{Key, SLOTS, WORDS, way_of};
 
 // What a look tells: C, M, the latest time, and how many numbers there are from M to C.
-#[repr(C)]
 #[derive(Clone, Copy)]
 pub struct View {
-    pub number: u8,
     pub current: u16,
     pub oldest: u16,
     pub latest: u64,
     pub span: usize,
 }
 
-// A refusal tells its number and nothing else.
-fn refuses(number: u8) -> View
-    ensures { (result.number ≡ number) × (result.current ≡ 0) × (result.oldest ≡ 0) × (result.latest ≡ 0) × (result.span ≡ 0) }
+// A cell as two numbers: 1 and the handle where it waits, 0 and the time where it is missing.
+fn as_numbers(cell: Cell) -> (u8, u64)
+    ensures { (result.0 ≡ cell_mark (cell_of cell)) × (result.1 ≡ cell_value (cell_of cell)) }
 {
-    View {
-        number: number,
-        current: 0,
-        oldest: 0,
-        latest: 0,
-        span: 0,
+    match cell {
+        Cell::Waits(handle) => (1, handle as u64),
+        Cell::Missing(since) => (0, since),
     }
-}
-
-// What there is of number n: the handle where it waits, else the time since when it is missing.
-fn value_of(words: &[u64], handles: &[u32], marks: &[u8], n: Seq) -> u64
-    ensures { result ≡ cell_value (cell_at words.now handles.now marks.now (slot_of n.0)) }
-{
-    if is_missing(marks, n) {
-        return time_of(words, n);
-    }
-    handle_of(handles, n) as u64
-}
-
-// 1 where number n waits, 0 where it is missing.
-fn mark_of(marks: &[u8], n: Seq) -> u8
-    ensures { result ≡ cell_mark (cell_at [] [] marks.now (slot_of n.0)) }
-{
-    if is_missing(marks, n) { 0 } else { 1 }
 }
 
 // Tells the cells of n numbers from `from` on, one entry of each buffer for a number: 1 and the handle, or 0 and the time.
+#[tactic(auto, using(crate::proofs::Telling::telling))]
 fn tell(
     words: &[u64],
     handles: &[u32],
@@ -69,15 +50,10 @@ fn tell(
     ensures values_after { values.new
         ≡ sets values.old 0 (map cell_value (cells_from (cell_at words.now handles.now marks.now) from.0 n)) }
 {
-    let mut i = from;
-    let mut left = n;
-    let mut to: usize = 0;
-    while 0 < left {
-        waits[to] = mark_of(marks, i);
-        values[to] = value_of(words, handles, marks, i);
-        to += 1;
-        i = i.forward(1);
-        left -= 1;
+    for k in 0..n {
+        let (mark, value) = as_numbers(Cell::of(words, handles, marks, from.forward(k)));
+        waits[k as usize] = mark;
+        values[k as usize] = value;
     }
 }
 
@@ -88,71 +64,60 @@ fn look_at(
     marks: &[u8],
     waits: &mut [u8],
     values: &mut [u64],
-) -> View
+) -> Result<View, Refused>
     requires sized { (length words.now ≡ place_words) × (length marks.now ≡ slots) }
     requires room { (window ≤ length waits.old) × (window ≤ length values.old) }
     ensures { Looked (shown_at (record_of words.now handles.now marks.now))
-        waits.old waits.new values.old values.new result }
+        waits.old waits.new values.old values.new (seen result) }
 {
     if !judging::is_sound(words, marks) {
-        return refuses(6);
+        return Err(Refused::Broken);
     }
     let current = slots::current(words) as u16;
     let oldest = slots::oldest(words) as u16;
     let span = Seq(oldest).steps(Seq(current).forward(1));
     tell(words, handles, marks, Seq(oldest), span, waits, values);
-    View {
-        number: 0,
-        current: current,
-        oldest: oldest,
+    Ok(View {
+        current,
+        oldest,
         latest: slots::latest(words),
         span: span as usize,
-    }
+    })
 }
 
-// A look at the channel of a key. The buffers take a mark and a value for each number from M to C, and need 32 entries each.
+// A look at the channel of a key. The buffers take a mark and a value for each number from M to C, and need 32 entries each: two beside each other,
+// as the C interface lends them. To `way_of` they stand for the three answer buffers, whose room it asks for.
 pub fn look(
     keys: &[u64],
     words: &[u64],
     handles: &[u32],
     marks: &[u8],
-    destination: &[u8; 6],
-    source: &[u8; 6],
-    priority: u8,
+    key: Key<'_>,
     waits: &mut [u8],
     values: &mut [u64],
-) -> View
+) -> Result<View, Refused>
     ensures { Looked
         (shown_of (lent_for (slices keys.now words.now handles.now marks.now) waits.old values.old)
-        (key_of destination.now source.now priority)
+        (key_in key.entry)
         (table_of (slices keys.now words.now handles.now marks.now)))
-        waits.old waits.new values.old values.new result }
+        waits.old waits.new values.old values.new (seen result) }
 {
-    let way = way_of(
-        keys,
-        words.len(),
-        handles.len(),
-        marks.len(),
-        waits.len(),
-        values.len(),
-        values.len(),
-        0,
-        first_word(destination, priority),
-        address(source),
-        priority,
-    );
-    match way {
-        Way::Known(i) => {
-            let from = WORDS * i;
-            let slot = SLOTS * i;
-            look_at(
-                &words[from..from + WORDS],
-                &handles[slot..slot + SLOTS],
-                &marks[slot..slot + SLOTS],
-                waits,
-                values,
-            )
-        }
-        Way::Refused(n) => refuses(n),
-    }
+    let lent = Lengths {
+        words: words.len(),
+        handles: handles.len(),
+        marks: marks.len(),
+        up: waits.len(),
+        returned: values.len(),
+        nack: values.len(),
+    };
+    let i = way_of(keys, lent, 0, key.stored())?;
+    let from = WORDS * i;
+    let slot = SLOTS * i;
+    look_at(
+        &words[from..from + WORDS],
+        &handles[slot..slot + SLOTS],
+        &marks[slot..slot + SLOTS],
+        waits,
+        values,
+    )
 }

@@ -5,16 +5,19 @@
 mod opening;
 
 ghost use Rattle.larq.specs.Events.{frame};
-ghost use Rattle.place.specs.Call.{buffers};
-ghost use Rattle.table.specs.Key.{key_of};
+ghost use Rattle.place.specs.Call.{buffers, told};
+ghost use Rattle.table.specs.Words.{key_in};
 ghost use Rattle.table.specs.Table.{slices};
 ghost use Rattle.table_calls.specs.Event.{Call};
 
+use larq::Refused;
 use opening::open_at;
-use place::{Answer, refused};
-use table::{DataWay, SLOTS, WORDS, address, data_way_of, first_word};
+use place::Answer;
+use record::Lengths;
+use table::{DataPlace, Key, SLOTS, WORDS, data_way_of};
 
 // A data frame: its number, and the handle by which the host knows it.
+// The slices stay apart, as a C host lends them: in a struct that holds them as `&mut`, every contract would have to say that it still lends the same ones.
 pub fn data(
     keys: &mut [u64],
     words: &mut [u64],
@@ -23,36 +26,22 @@ pub fn data(
     up: &mut [u32],
     returned: &mut [u32],
     nack: &mut [u16],
-    destination: &[u8; 6],
-    source: &[u8; 6],
-    priority: u8,
+    key: Key<'_>,
     time: u64,
     number: u16,
     handle: u32,
-) -> Answer
-    ensures { Call (key_of destination.now source.now priority) time (frame number handle)
+) -> Result<Answer, Refused>
+    ensures { Call (key_in key.entry) time (frame number handle)
         (slices keys.old words.old handles.old marks.old)
         (slices keys.new words.new handles.new marks.new)
         (buffers up.old returned.old nack.old)
-        (buffers up.new returned.new nack.new) result }
+        (buffers up.new returned.new nack.new) (told result) }
 {
-    let first = first_word(destination, priority);
-    let second = address(source);
-    let way = data_way_of(
-        keys,
-        words.len(),
-        handles.len(),
-        marks.len(),
-        up.len(),
-        returned.len(),
-        nack.len(),
-        number,
-        first,
-        second,
-        priority,
-    );
-    match way {
-        DataWay::Known(i) => {
+    let key = key.stored();
+    let lent = Lengths::of(words, handles, marks, up, returned, nack);
+    match data_way_of(keys, lent, number, key)? {
+        DataPlace::Known(i) => {
+            // Ranges: of `as_chunks_mut` and `chunks_exact_mut` std does not say what the slice holds afterwards.
             let from = WORDS * i;
             let slot = SLOTS * i;
             place_frame::data(
@@ -67,7 +56,6 @@ pub fn data(
                 time,
             )
         }
-        DataWay::Free(i) => open_at(keys, words, up, i, first, second, number, handle, time),
-        DataWay::Refused(n) => refused(n),
+        DataPlace::Free(i) => Ok(open_at(keys, words, up, i, key, number, handle, time)),
     }
 }

@@ -7,7 +7,7 @@ ghost use Rattle.table_calls.specs.Writes.{Opens};
 
 use place::{Answer, begun};
 use ring::Seq;
-use table::{KEY_WORDS, WORDS};
+use table::{KEY_WORDS, StoredKey, WORDS};
 
 // Opens a channel at the free place i, with C = number and M the next: nothing is missing, so what the slots hold does not count.
 pub(crate) fn open_at(
@@ -15,20 +15,19 @@ pub(crate) fn open_at(
     words: &mut [u64],
     up: &mut [u32],
     i: usize,
-    first: u64,
-    second: u64,
+    key: StoredKey,
     number: u16,
     handle: u32,
     time: u64,
 ) -> Answer
     requires { (length keys.old ≡ table_keys) × (length words.old ≡ table_words) × (window ≤ length up.old) × (i < places) }
-    ensures { Opens i first second number handle time
+    ensures { Opens i key.first key.second number handle time
         keys.old words.old up.old
         keys.new words.new up.new result }
 {
     let from = WORDS * i;
-    keys[KEY_WORDS * i] = first;
-    keys[KEY_WORDS * i + 1] = second;
+    keys[KEY_WORDS * i] = key.first;
+    keys[KEY_WORDS * i + 1] = key.second;
     begun(
         &mut words[from..from + WORDS],
         up,

@@ -1,12 +1,14 @@
 // A reminder on the table: it goes to its channel's place, and opens none (document 01, 'Reminder').
 ghost use Rattle.larq.specs.Events.{reminder};
-ghost use Rattle.place.specs.Call.{buffers};
-ghost use Rattle.table.specs.Key.{key_of};
+ghost use Rattle.place.specs.Call.{buffers, told};
+ghost use Rattle.table.specs.Words.{key_in};
 ghost use Rattle.table.specs.Table.{slices};
 ghost use Rattle.table_calls.specs.Event.{Call};
 
-use place::{Answer, refused};
-use table::{SLOTS, WORDS, Way, address, first_word, way_of};
+use larq::Refused;
+use place::Answer;
+use record::Lengths;
+use table::{Key, SLOTS, WORDS, way_of};
 
 // A reminder that number `number` was sent.
 pub fn reminder(
@@ -17,46 +19,28 @@ pub fn reminder(
     up: &mut [u32],
     returned: &mut [u32],
     nack: &mut [u16],
-    destination: &[u8; 6],
-    source: &[u8; 6],
-    priority: u8,
+    key: Key<'_>,
     time: u64,
     number: u16,
-) -> Answer
-    ensures { Call (key_of destination.now source.now priority) time (reminder number)
+) -> Result<Answer, Refused>
+    ensures { Call (key_in key.entry) time (reminder number)
         (slices keys.now words.old handles.old marks.old)
         (slices keys.now words.new handles.new marks.new)
         (buffers up.old returned.old nack.old)
-        (buffers up.new returned.new nack.new) result }
+        (buffers up.new returned.new nack.new) (told result) }
 {
-    let way = way_of(
-        keys,
-        words.len(),
-        handles.len(),
-        marks.len(),
-        up.len(),
-        returned.len(),
-        nack.len(),
+    let lent = Lengths::of(words, handles, marks, up, returned, nack);
+    let i = way_of(keys, lent, number, key.stored())?;
+    let from = WORDS * i;
+    let slot = SLOTS * i;
+    place_upkeep::reminder(
+        &mut words[from..from + WORDS],
+        &mut handles[slot..slot + SLOTS],
+        &mut marks[slot..slot + SLOTS],
+        up,
+        returned,
+        nack,
         number,
-        first_word(destination, priority),
-        address(source),
-        priority,
-    );
-    match way {
-        Way::Known(i) => {
-            let from = WORDS * i;
-            let slot = SLOTS * i;
-            place_upkeep::reminder(
-                &mut words[from..from + WORDS],
-                &mut handles[slot..slot + SLOTS],
-                &mut marks[slot..slot + SLOTS],
-                up,
-                returned,
-                nack,
-                number,
-                time,
-            )
-        }
-        Way::Refused(n) => refused(n),
-    }
+        time,
+    )
 }

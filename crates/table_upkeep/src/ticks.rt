@@ -1,12 +1,14 @@
 // A tick on the table (document 01, 'Tick').
 ghost use Rattle.larq.specs.Events.{tick};
-ghost use Rattle.place.specs.Call.{buffers};
-ghost use Rattle.table.specs.Key.{key_of};
+ghost use Rattle.place.specs.Call.{buffers, told};
+ghost use Rattle.table.specs.Words.{key_in};
 ghost use Rattle.table.specs.Table.{slices};
 ghost use Rattle.table_calls.specs.Event.{Call};
 
-use place::{Answer, refused};
-use table::{SLOTS, WORDS, Way, address, first_word, way_of};
+use larq::Refused;
+use place::Answer;
+use record::Lengths;
+use table::{Key, SLOTS, WORDS, way_of};
 
 // Time has passed: numbers that are missing for 150 ticks or more are given up.
 pub fn tick(
@@ -17,44 +19,26 @@ pub fn tick(
     up: &mut [u32],
     returned: &mut [u32],
     nack: &mut [u16],
-    destination: &[u8; 6],
-    source: &[u8; 6],
-    priority: u8,
+    key: Key<'_>,
     time: u64,
-) -> Answer
-    ensures { Call (key_of destination.now source.now priority) time tick
+) -> Result<Answer, Refused>
+    ensures { Call (key_in key.entry) time tick
         (slices keys.now words.old handles.old marks.old)
         (slices keys.now words.new handles.new marks.new)
         (buffers up.old returned.old nack.old)
-        (buffers up.new returned.new nack.new) result }
+        (buffers up.new returned.new nack.new) (told result) }
 {
-    let way = way_of(
-        keys,
-        words.len(),
-        handles.len(),
-        marks.len(),
-        up.len(),
-        returned.len(),
-        nack.len(),
-        0,
-        first_word(destination, priority),
-        address(source),
-        priority,
-    );
-    match way {
-        Way::Known(i) => {
-            let from = WORDS * i;
-            let slot = SLOTS * i;
-            place_upkeep::tick(
-                &mut words[from..from + WORDS],
-                &mut handles[slot..slot + SLOTS],
-                &mut marks[slot..slot + SLOTS],
-                up,
-                returned,
-                nack,
-                time,
-            )
-        }
-        Way::Refused(n) => refused(n),
-    }
+    let lent = Lengths::of(words, handles, marks, up, returned, nack);
+    let i = way_of(keys, lent, 0, key.stored())?;
+    let from = WORDS * i;
+    let slot = SLOTS * i;
+    place_upkeep::tick(
+        &mut words[from..from + WORDS],
+        &mut handles[slot..slot + SLOTS],
+        &mut marks[slot..slot + SLOTS],
+        up,
+        returned,
+        nack,
+        time,
+    )
 }

@@ -6,13 +6,13 @@ use mathlib.Core.List.{List, [], ◌∷◌, ◌++◌}
 use Prim.Native.Nat.{ℕ, ◌+◌}
 use lib.Dec.{ltb}
 use lib.ListN.{set, replicate}
+use Rattle.std.specs.Bool.{then_some}
 use Rattle.wire.specs.Octets.{octet_at, within, six_at, part_at, all_below}
 use Rattle.wire.specs.Laying.{over, Lays}
 use Rattle.wire.specs.Refusals.{Refusal, ◌else◌, first, answered}
-use Rattle.wire.specs.Answers.{ruled, field_says, check_says, value_if, right_if}
+use Rattle.std.specs.Prelude.{Some, None, Ok, Err}
+use Rattle.wire.specs.Answers.{ruled, option_says, result_says}
 use Rattle.wire.specs.ShortFormat.{ethertype_right, ss_type, ss_length, ss_version, header_length, next_ethertype_zero}
-use Rattle.wire.specs.declared.answers.Field.TheVariants as field
-use Rattle.wire.specs.declared.answers.Checked.TheVariants as checked
 
 abbrev three : List ℕ
 three = 7 ∷ 8 ∷ 9 ∷ []
@@ -78,17 +78,17 @@ answers_given = (refl, refl, refl, refl)
 
 -- what the answers say: number 0 and the values, or the number alone
 pub fields_say :
-    (field_says 4 (value_if true 9) ≡ record { number = 0; values = 9 ∷ [] })
-    × (field_says 4 (value_if false 9) ≡ record { number = 4; values = [] })
-    × (check_says 4 (right_if true) ≡ record { number = 0; values = [] })
-    × (check_says 4 (right_if false) ≡ record { number = 4; values = [] })
+    (option_says (λ v. v ∷ []) 4 (Some 9) ≡ record { number = 0; values = 9 ∷ [] })
+    × (option_says (λ (v : ℕ). v ∷ []) 4 None ≡ record { number = 4; values = [] })
+    × (result_says {E = ℕ} (λ v. v ∷ []) (λ n. n) (Ok 9) ≡ record { number = 0; values = 9 ∷ [] })
+    × (result_says {A = ℕ} (λ v. v ∷ []) (λ n. n) (Err 4) ≡ record { number = 4; values = [] })
     × (ruled (true else 4) (9 ∷ []) ≡ record { number = 0; values = 9 ∷ [] })
     × (ruled (false else 4) (9 ∷ []) ≡ record { number = 4; values = [] })
 fields_say = (refl, refl, refl, refl, refl, refl)
 
-pub answers_made :
-    (value_if true 9 ≡ field.Value 9) × (value_if false 9 ≡ field.Wrong) × (right_if true ≡ checked.Right) × (right_if false ≡ checked.Wrong)
-answers_made = (refl, refl, refl, refl)
+-- the answer that a test and a value lead to
+pub answers_made : (then_some {T = ℕ} true 9 ≡ Some 9) × (then_some {T = ℕ} false 9 ≡ None)
+answers_made = (refl, refl)
 
 -- document 01's header, of which Next Ethertype is octets 22 and 23, and an octet behind it
 abbrev header : List ℕ

@@ -1,7 +1,6 @@
 pub mod First
 pub mod Answered
 pub mod ByCases
-pub mod Ruled
 pub mod Joined
 pub mod Within
 pub mod Octets
@@ -13,3 +12,4 @@ pub mod Parts
 pub mod OneOutcome
 pub mod Cases
 pub mod Said
+pub mod Ruled

@@ -1,14 +1,12 @@
 #![tactic(auto)]
-// The words of every frame format: octets, the answers of fields, refusals in their order, the short format, and laying octets into a slice.
+// The words of every frame format: octets, refusals in their order, the short format, and laying octets into a slice.
 // Every function takes any input: past the end an octet is 0, a part that does not lie within is empty, and what does not fit is not written.
-mod answers;
 mod laying;
 mod short;
 
-ghost use Rattle.std.specs.Prelude.{◌≡◌, ◌&&◌, ◌+◌, ◌≤◌, length, leb};
-ghost use Rattle.wire.specs.Octets.{octet_at, six_from, six_at, OwnPartOrNone};
+ghost use Rattle.std.specs.Prelude.{◌≡◌, ◌&&◌, ◌+◌, leb};
+ghost use Rattle.wire.specs.Octets.{octet_at, six_at, OwnPartOrNone};
 
-pub use answers::{Checked, Field, right_if, value_if};
 pub use laying::{clear, lay};
 pub use short::{ethertype_right, next_ethertype_zero};
 
@@ -16,7 +14,7 @@ pub use short::{ethertype_right, next_ethertype_zero};
 pub fn octet(s: &[u8], at: usize) -> u8
     ensures { result ≡ octet_at s.now at }
 {
-    if at < s.len() { s[at] } else { 0 }
+    s.get(at).copied().unwrap_or(0)
 }
 
 // Whether a number lies between two others, both of them included.
@@ -30,28 +28,19 @@ pub fn between(n: usize, least: usize, most: usize) -> bool
 pub fn lies_within(length: usize, start: usize, count: usize) -> bool
     ensures { result ≡ leb (start + count) length }
 {
-    if length < start {
-        false
-    } else {
-        count <= length - start
-    }
+    start <= length && count <= length - start
 }
 
 // The six octets from a place on: an address. Where they do not all lie within the slice, zeros.
 pub fn six(s: &[u8], at: usize) -> [u8; 6]
     ensures { result ≡ six_at s.now at }
 {
+    let mut address = [0; 6];
     if lies_within(s.len(), at, 6) {
-        return six_there(s, at);
+        let end = at + 6;
+        address.copy_from_slice(&s[at..end]);
     }
-    [0; 6]
-}
-
-fn six_there(s: &[u8], at: usize) -> [u8; 6]
-    requires { at + 6 ≤ length s.now }
-    ensures { result ≡ six_from s.now at }
-{
-    [s[at], s[at + 1], s[at + 2], s[at + 3], s[at + 4], s[at + 5]]
+    address
 }
 
 // The caller's own octets from a place on, or none of them where they do not lie within the slice.

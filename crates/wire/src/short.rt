@@ -4,6 +4,7 @@ ghost use Rattle.wire.specs.ShortFormat.{ethertype_right, next_ethertype_zero};
 
 use crate::octet;
 
+#[tactic(auto, unfolding(crate::specs::ShortFormat::ethertype_right))]
 pub fn ethertype_right(frame: &[u8]) -> bool
     ensures { result ≡ ethertype_right frame.now }
 {
@@ -11,6 +12,7 @@ pub fn ethertype_right(frame: &[u8]) -> bool
 }
 
 // Next Ethertype is the header's last two octets, and SSLength says where the header ends.
+#[tactic(auto, unfolding(crate::specs::ShortFormat::next_ethertype_zero))]
 pub fn next_ethertype_zero(frame: &[u8]) -> bool
     ensures { result ≡ next_ethertype_zero frame.now }
 {

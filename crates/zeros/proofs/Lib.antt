@@ -1,1 +1,1 @@
-mod Zeroing
+pub mod Instances

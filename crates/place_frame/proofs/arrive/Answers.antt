@@ -6,46 +6,28 @@ use Rattle.place_frame.proofs.Frames.{frame_next, frame_ahead, frame_missing, fr
 use Rattle.place_frame.proofs.arrive.Goals as goal
 
 pub overflow_sub-d : goal.overflow_sub-d
-overflow_sub-d c =
-    let a = c.args in
-    ahead_some a.r.current.0 a.s.0 _ (lies_at a.r a.marks.now a.s.0 c.in-Ahead.ensures).is
+overflow_sub-d c = ahead_some _ _ _ (lies_at c.args.r _ _ c.in-Ahead.ensures).is
 
 pub ahead-requires-clause-ahead : goal.ahead-requires-clause-ahead
-ahead-requires-clause-ahead c =
-    let a = c.args in
-    ahead_frame a.r.current.0 a.s.0 _ (lies_at a.r a.marks.now a.s.0 c.in-Ahead.ensures).is a.handle
+ahead-requires-clause-ahead c = ahead_frame _ _ _ (lies_at c.args.r _ _ c.in-Ahead.ensures).is _
 
 pub returns-in-Ahead : goal.returns-in-Ahead
-returns-in-Ahead c =
-    let a = c.args in
-    let lies = lies_at a.r a.marks.now a.s.0 c.in-Ahead.ensures in
-    frame_ahead a.s.0 a.handle a.time c.requires.ready.0 a.returned.now lies.is c.ahead.ensures c.counted.ensures
+returns-in-Ahead c = frame_ahead _ _ _ c.requires.ready.0 _ (lies_at c.args.r _ _ c.in-Ahead.ensures).is c.ahead.ensures c.from.ensures
 
 pub returns-in-Next : goal.returns-in-Next
 returns-in-Next c =
-    let a = c.args in
     let p = c.requires in
-    let lies = lies_at a.r a.marks.now a.s.0 c.in-Next.ensures in
     let e = c.begun.ensures in
-    frame_next a.s.0 a.handle a.time p.ready.0 a.up.now a.returned.now a.nack.now p.ready.1 lies
-    (omega (arith, p.window_in_bounds.0)) e.head e.frame e.answer
+    frame_next _ _ _ p.ready.0 _ _ _ p.ready.1 (lies_at c.args.r _ _ c.in-Next.ensures) (omega (arith, p.window_in_bounds.0)) e.head e.frame e.answer
 
 pub returns-in-Missing : goal.returns-in-Missing
-returns-in-Missing c =
-    let a = c.args in
-    let lies = lies_at a.r a.marks.now a.s.0 c.in-Missing.ensures in
-    frame_missing a.s.0 a.handle a.time c.requires.ready.0 a.returned.now a.nack.now lies c.filled.ensures c.counted-in-Missing.ensures
+returns-in-Missing c = frame_missing _ _ _ c.requires.ready.0 _ _ (lies_at c.args.r _ _ c.in-Missing.ensures) c.filled.ensures c.from-in-Missing.ensures
 
 pub returns-in-Unwanted : goal.returns-in-Unwanted
 returns-in-Unwanted c =
-    let a = c.args in
     let p = c.requires in
-    let lies = lies_at a.r a.marks.now a.s.0 c.in-Unwanted.ensures in
     let e = c.sent_back.ensures in
-    frame_unwanted a.s.0 a.handle a.time p.ready.0 a.up.now a.returned.now a.nack.now lies (omega (arith, p.window_in_bounds.1)) e.0 e.1 e.2
+    frame_unwanted _ _ _ p.ready.0 _ _ _ (lies_at c.args.r _ _ c.in-Unwanted.ensures) (omega (arith, p.window_in_bounds.1)) e.0 e.1 e.2
 
 pub returns-in-Far : goal.returns-in-Far
-returns-in-Far c =
-    let a = c.args in
-    let lies = lies_at a.r a.marks.now a.s.0 c.in-Far.ensures in
-    frame_far a.s.0 a.handle a.time c.requires.ready.0 a.nack.now lies c.restarted.ensures
+returns-in-Far c = frame_far _ _ _ c.requires.ready.0 _ (lies_at c.args.r _ _ c.in-Far.ensures) c.restarted.ensures

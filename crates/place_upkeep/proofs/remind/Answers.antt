@@ -8,26 +8,20 @@ use Rattle.place_upkeep.proofs.remind.Goals as goal
 
 pub returns-then-is_far : goal.returns-then-is_far
 returns-then-is_far c =
-    let a = c.args in
-    reminder_far c.requires.ready.0 a.time a.s.0 a.up.now a.nack.now
-    (seen_far a.r.current.0 a.s.0 (rw (c.is_far.ensures, c.distance-d.ensures) at c.if-is_far.true)) c.refused.ensures
+    reminder_far c.requires.ready.0 _ _ _ _ (seen_far _ _ (rw (c.is_far.ensures, c.distance-d.ensures) at c.if-is_far.true))
 
 pub returns-then-not-is_ahead : goal.returns-then-not-is_ahead
 returns-then-not-is_ahead c =
-    let a = c.args in
-    reminder_behind c.requires.ready.0 a.time a.s.0 a.up.now a.nack.now
-    (seen_behind a.r.current.0 a.s.0 (rw (c.is_far.ensures, c.distance-d.ensures) at c.if-is_far.false)
+    reminder_behind c.requires.ready.0 _ _ _ _
+    (seen_behind _ _ (rw (c.is_far.ensures, c.distance-d.ensures) at c.if-is_far.false)
     (rw (c.is_ahead.ensures, c.distance-d.ensures) at c.if-not-is_ahead.true)).1 c.noted.ensures.0 c.noted.ensures.1
 
 pub reminded-requires-clause-ahead : goal.reminded-requires-clause-ahead
 reminded-requires-clause-ahead c =
-    let a = c.args in
-    ahead_reminder a.r.current.0 a.s.0 _
-    (seen_ahead a.r.current.0 a.s.0 (rw (c.is_ahead.ensures, c.distance-d.ensures) at c.if-not-is_ahead.false) ∙ ap Ahead (sym c.steps.ensures))
+    ahead_reminder _ _ _ (seen_ahead _ _ (rw (c.is_ahead.ensures, c.distance-d.ensures) at c.if-not-is_ahead.false) ∙ ap Ahead (sym c.steps.ensures))
 
 pub returns : goal.returns
 returns c =
-    let a = c.args in
-    reminder_ahead c.requires.ready.0 a.time a.s.0
-    (seen_ahead a.r.current.0 a.s.0 (rw (c.is_ahead.ensures, c.distance-d.ensures) at c.if-not-is_ahead.false) ∙ ap Ahead (sym c.steps.ensures))
-    c.reminded.ensures c.counted.ensures
+    reminder_ahead c.requires.ready.0 _ _
+    (seen_ahead _ _ (rw (c.is_ahead.ensures, c.distance-d.ensures) at c.if-not-is_ahead.false) ∙ ap Ahead (sym c.steps.ensures))
+    c.reminded.ensures c.into.ensures

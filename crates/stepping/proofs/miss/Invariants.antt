@@ -2,9 +2,6 @@
 use Rattle.stepping.proofs.Stamping.{Misses}
 use Rattle.stepping.proofs.miss.Given as goal
 
-abbrev pub invariant-loop-left : goal.invariant-loop-left
-invariant-loop-left l =
-    Misses l.initial.i.0 l.n l.time l.initial.words l.initial.marks l.initial.nack l.words l.marks l.nack l.i.0 l.left l.to
-
-abbrev pub decreases-loop-left : goal.decreases-loop-left
-decreases-loop-left l = l.left
+abbrev pub invariant-loop-k : goal.invariant-loop-k
+invariant-loop-k l =
+    Misses l.initial.i.0 l.n l.time l.initial.words l.initial.marks l.initial.nack l.words l.marks l.nack l.i.0 l.k

@@ -1,5 +1,6 @@
--- `pik_data` meets its contract: `data` is called with the same arguments, and its contract is the same.
+-- `pik_data` meets its contract: `data` is called with the same arguments, and its result is told. The check finds this alone; it stands here so that a
+-- wrong argument is refused where it differs.
 use Rattle.pik_channel.proofs.channels.pik_data.Goals as goal
 
 pub returns : goal.returns
-returns c = c.data.ensures
+returns c = rw c.into.ensures c.data.ensures

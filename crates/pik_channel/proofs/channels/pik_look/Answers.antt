@@ -1,5 +1,6 @@
--- `pik_look` meets its contract: `look` is called with the same arguments, and its contract is the same.
+-- `pik_look` meets its contract: `look` is called with the same arguments, and its result is told. The check finds this alone; it stands here so that a
+-- wrong argument is refused where it differs.
 use Rattle.pik_channel.proofs.channels.pik_look.Goals as goal
 
 pub returns : goal.returns
-returns c = c.look.ensures
+returns c = rw c.into.ensures c.look.ensures

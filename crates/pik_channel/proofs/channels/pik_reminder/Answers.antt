@@ -1,5 +1,6 @@
--- `pik_reminder` meets its contract: `reminder` is called with the same arguments, and its contract is the same.
+-- `pik_reminder` meets its contract: `reminder` is called with the same arguments, and its result is told. The check finds this alone; it stands here so that a
+-- wrong argument is refused where it differs.
 use Rattle.pik_channel.proofs.channels.pik_reminder.Goals as goal
 
 pub returns : goal.returns
-returns c = c.reminder.ensures
+returns c = rw c.into.ensures c.reminder.ensures

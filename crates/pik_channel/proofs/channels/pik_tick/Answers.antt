@@ -1,5 +1,6 @@
--- `pik_tick` meets its contract: `tick` is called with the same arguments, and its contract is the same.
+-- `pik_tick` meets its contract: `tick` is called with the same arguments, and its result is told. The check finds this alone; it stands here so that a
+-- wrong argument is refused where it differs.
 use Rattle.pik_channel.proofs.channels.pik_tick.Goals as goal
 
 pub returns : goal.returns
-returns c = c.tick.ensures
+returns c = rw c.into.ensures c.tick.ensures

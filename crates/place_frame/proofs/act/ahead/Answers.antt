@@ -6,14 +6,10 @@ use Rattle.place_frame.proofs.act.ahead.Goals as goal
 pub brought-requires-clause-roomy : goal.brought-requires-clause-roomy
 brought-requires-clause-roomy c =
     let p = c.requires in
-    let room = p.window_in_bounds in
-    let wide = stepped p.ready.0 p.ahead room.0 room.1 c.widened-p.ensures in
-    settle_room p.ready.0 p.ready.1 p.ahead room.0 room.1 wide refl refl
+    settle_room (stepped p.ready p.window_in_bounds p.ahead c.widened-p.ensures) refl refl
 
 pub returns : goal.returns
 returns c =
     let p = c.requires in
-    let room = p.window_in_bounds in
     let e = c.brought.ensures in
-    let wide = stepped p.ready.0 p.ahead room.0 room.1 c.widened-p.ensures in
-    ahead_did p.ready.0 p.ready.1 p.ahead room.0 room.1 wide e.0 e.1 e.2
+    ahead_did (stepped p.ready p.window_in_bounds p.ahead c.widened-p.ensures) e.0 e.1 e.2

@@ -11,17 +11,12 @@ window_fits l = omega arith
 pub overflow_add-result : goal.overflow_add-result
 overflow_add-result c =
     let p = c.requires in
-    let wide = stepped p.ready.0 p.ahead p.window_in_bounds.0 p.window_in_bounds.1 c.widened-p.ensures in
-    let sized = widened_sized p.ready.0 p.ready.1 p.ahead p.window_in_bounds.0 p.window_in_bounds.1 wide in
-    record {
-      fits = window_fits (gone_few p.ready.0 p.ready.1 p.ahead p.window_in_bounds.0 p.window_in_bounds.1 wide refl refl c.settle-done.ensures.settles sized);
-    }
+    let step = stepped p.ready p.window_in_bounds p.ahead c.widened-p.ensures in
+    record { fits = window_fits (gone_few step refl refl c.settle-done.ensures.settles (widened_sized step)) }
 
 pub returns : goal.returns
 returns c =
     let p = c.requires in
     let e = c.settle-done.ensures in
-    let wide = stepped p.ready.0 p.ahead p.window_in_bounds.0 p.window_in_bounds.1 c.widened-p.ensures in
-    ahead_did p.ready.0 p.ready.1 p.ahead p.window_in_bounds.0 p.window_in_bounds.1 wide refl refl
-    (finished (widened_sized p.ready.0 p.ready.1 p.ahead p.window_in_bounds.0 p.window_in_bounds.1 wide)
-    (settle_room p.ready.0 p.ready.1 p.ahead p.window_in_bounds.0 p.window_in_bounds.1 wide refl refl) e.settles e.words_after)
+    let step = stepped p.ready p.window_in_bounds p.ahead c.widened-p.ensures in
+    ahead_did step refl refl (finished (widened_sized step) (settle_room step refl refl) e.settles e.words_after)

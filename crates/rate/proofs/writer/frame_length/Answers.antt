@@ -3,8 +3,5 @@ use Rattle.std.proofs.Common.{arith, rules}
 use Rattle.rate.proofs.Frame.{length_frame}
 use Rattle.rate.proofs.writer.frame_length.Goals as goal
 
-pub returns-then-header-lt60 : goal.returns-then-header-lt60
-returns-then-header-lt60 c = omega (arith, length_frame c.args.request c.args.addresses.now (search rules) (search rules) c.requires)
-
-pub returns-else-header-lt60 : goal.returns-else-header-lt60
-returns-else-header-lt60 c = omega (arith, length_frame c.args.request c.args.addresses.now (search rules) (search rules) c.requires)
+pub returns : goal.returns
+returns c = omega (arith, length_frame c.args.request c.args.addresses.now (search rules) (search rules) c.requires, c.max.ensures)

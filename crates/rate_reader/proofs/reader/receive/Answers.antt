@@ -1,19 +1,15 @@
--- Received is made of what `read` and `held` return; that the part lies within the frame is `reading_within`.
-use Rattle.std.proofs.Common.{◌≡◌, ◌+◌, ◌≤◌, List, ℕ, length}
-use denote.Ref.{Bor}
-use Rattle.wire.specs.Octets.{OwnPartOrNone}
+-- The octets at the reading's place lie within the frame, so that the very part is handed back.
+use Rattle.std.proofs.Common.{◌≡◌, ap, sym}
 use Rattle.wire.proofs.Parts.{own_within}
-use Rattle.rate_reader.specs.Reading.{read_of}
-use Rattle.rate_reader.specs.Receiving.{Receives}
-use Rattle.rate_reader.specs.declared.Reading.{Reading}
+use Rattle.rate_reader.specs.Reading.{Read, read_of}
 use Rattle.rate_reader.proofs.Accepted.{reading_within}
 use Rattle.rate_reader.proofs.reader.receive.Goals as goal
 
--- what the two callees ensure is what is received
-receives : (s : Bor (List ℕ)) (r : Reading) (t : Bor (List ℕ)) → r ≡ read_of s.now → OwnPartOrNone s r.start r.extent t → Receives s (record { reading = r; addresses = t })
-receives s r t e part =
-    let lies : r.start + r.extent ≤ length s.now = rw e (reading_within s.now) in
-    record { reading = e; addresses = rw e at (own_within s r.start r.extent lies part) }
-
 pub returns : goal.returns
-returns c = receives c.args.frame c.read-reading.result c.held-addresses.result c.read-reading.ensures c.held-addresses.ensures
+returns c =
+    let s = c.args.frame.now in
+    let e = c.in_ok-reading.ensures in
+    let start : (read_of s).start ≡ c.in_ok-reading.reading.start = sym (ap (λ (a : Read). a.start) e) in
+    let extent : (read_of s).extent ≡ c.in_ok-reading.reading.extent = sym (ap (λ (a : Read). a.extent) e) in
+    let there = rw (start, extent) at (reading_within s) in
+    record { reading = e; addresses = rw (start, extent) (own_within c.args.frame _ _ there c.part-addresses.ensures) }

@@ -1,9 +1,9 @@
--- Each turn but the last leaves less of the buffer to fill.
-use Rattle.std.proofs.Common.{◌≡◌, ◌-◌, length}
+-- No more came than the buffer takes.
+use Rattle.std.proofs.Common.{length, ◌-◌, ◌≤◌}
 use Rattle.replay.proofs.stream.fill.Given as goal
 
 abbrev pub invariant-loop-done : goal.invariant-loop-done
-invariant-loop-done g l = length l.buffer ≡ length l.fn.buffer
+invariant-loop-done g l = l.done ≤ length l.buffer
 
 abbrev pub decreases-loop-done : goal.decreases-loop-done
-decreases-loop-done g l = length l.fn.buffer - l.done
+decreases-loop-done g l = length l.initial.buffer - l.done

@@ -1,18 +1,21 @@
--- By the way that `way_of` gives a look refuses, or looks at the parts of the channel's place (Viewing).
+-- A look hands on what `way_of` refuses, or looks at the parts of the channel's place (Viewing).
 use Rattle.std.proofs.Common.{arith}
-use Rattle.table.specs.Key.{key_of}
-use Rattle.table.proofs.Saying.{way_of_key}
+use Rattle.table.specs.Words.{key_in}
 use Rattle.table_calls.proofs.Viewing.{Goes, goes, known_looked, turned_looked}
 use Rattle.table_calls.proofs.looking.look.Goals as goal
 
+pub returns-in_err-i : goal.returns-in_err-i
+returns-in_err-i c =
+    let a = c.args in
+    turned_looked a.keys.now a.words.now a.handles.now a.marks.now a.waits.now a.values.now (key_in a.key) c.stored.ensures c.in_err-i.field-0.0
+    c.in_err-i.ensures _ c.from_residual.ensures.1
+
 -- the slices, and the two buffers, are long enough for the place that was found
-going : (c : goal.In-Known) → Goes c.args.keys.now c.args.words.now c.args.handles.now c.args.marks.now c.args.waits.now c.args.values.now
-    (key_of c.args.destination.now c.args.source.now c.args.priority) c.in-Known.i
+going : (c : goal.In_ok-i) → Goes c.args.keys.now c.args.words.now c.args.handles.now c.args.marks.now c.args.waits.now c.args.values.now
+    (key_in c.args.key) c.in_ok-i.i
 going c =
     let a = c.args in
-    let k = key_of a.destination.now a.source.now a.priority in
-    goes a.keys.now a.words.now a.handles.now a.marks.now a.waits.now a.values.now k _ _
-    (way_of_key _ 0 a.keys.now k _ _ c.first_word.ensures c.address.ensures.0 _ c.way_of-way.ensures) c.in-Known.is
+    goes a.keys.now a.words.now a.handles.now a.marks.now a.waits.now a.values.now (key_in a.key) c.stored.ensures c.in_ok-i.i c.in_ok-i.ensures
 
 pub overflow_mul-from : goal.overflow_mul-from
 overflow_mul-from c = omega (arith, going c)
@@ -29,16 +32,8 @@ offset_bounds-words-from c = omega (arith, going c)
 pub slice_bounds-look_at-end : goal.slice_bounds-look_at-end
 slice_bounds-look_at-end c = omega (arith, going c)
 
-pub returns-in-Known : goal.returns-in-Known
-returns-in-Known c =
+pub returns : goal.returns
+returns c =
     let a = c.args in
-    let k = key_of a.destination.now a.source.now a.priority in
-    known_looked a.keys.now a.words.now a.handles.now a.marks.now a.waits.now a.values.now k _ _
-    (way_of_key _ 0 a.keys.now k _ _ c.first_word.ensures c.address.ensures.0 _ c.way_of-way.ensures) c.in-Known.is _ _ _ c.look_at.ensures
-
-pub returns-in-Refused : goal.returns-in-Refused
-returns-in-Refused c =
-    let a = c.args in
-    let k = key_of a.destination.now a.source.now a.priority in
-    turned_looked a.keys.now a.words.now a.handles.now a.marks.now a.waits.now a.values.now k _ _ _
-    (way_of_key _ 0 a.keys.now k _ _ c.first_word.ensures c.address.ensures.0 _ c.way_of-way.ensures) c.in-Refused.is c.refuses.ensures
+    known_looked a.keys.now a.words.now a.handles.now a.marks.now a.waits.now a.values.now (key_in a.key) c.stored.ensures c.in_ok-i.i c.in_ok-i.ensures
+    _ _ _ c.look_at.ensures

@@ -1,14 +1,15 @@
--- At each turn both buffers still lack the cells from here on (Telling, `Tells`); `left` counts down.
-use Rattle.record.specs.Place.{cell_at}
+-- At each turn both buffers still lack the cells from here on.
+use Rattle.std.proofs.Common.{◌≡◌, ◌-◌, map}
+use Rattle.std.proofs.lemmas.List.Edits.{sets}
+use Rattle.ring.specs.Ring.{forward}
+use Rattle.record.specs.Place.{cells_from, cell_at}
 use Rattle.table_calls.specs.Look.{cell_mark, cell_value}
-use Rattle.table_calls.proofs.Telling.{Tells}
 use Rattle.table_calls.proofs.looking.tell.Given as goal
 
-abbrev pub invariant-loop-left : goal.invariant-loop-left
-invariant-loop-left l = record {
-  marks : Tells cell_mark (cell_at l.words l.handles l.marks) l.initial.i.0 l.n l.initial.waits l.waits l.i.0 l.left l.to;
-  cells : Tells cell_value (cell_at l.words l.handles l.marks) l.initial.i.0 l.n l.initial.values l.values l.i.0 l.left l.to;
+abbrev pub invariant-loop-k : goal.invariant-loop-k
+invariant-loop-k l = record {
+  marks : sets l.waits l.k (map cell_mark (cells_from (cell_at l.words l.handles l.marks) (forward l.from.0 l.k) (l.n - l.k)))
+      ≡ sets l.initial.waits 0 (map cell_mark (cells_from (cell_at l.words l.handles l.marks) l.from.0 l.n));
+  cells : sets l.values l.k (map cell_value (cells_from (cell_at l.words l.handles l.marks) (forward l.from.0 l.k) (l.n - l.k)))
+      ≡ sets l.initial.values 0 (map cell_value (cells_from (cell_at l.words l.handles l.marks) l.from.0 l.n));
 }
-
-abbrev pub decreases-loop-left : goal.decreases-loop-left
-decreases-loop-left l = l.left

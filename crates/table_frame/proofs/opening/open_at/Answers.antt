@@ -5,4 +5,4 @@ use Rattle.table_frame.proofs.opening.open_at.Goals as goal
 pub returns : goal.returns
 returns c =
     let a = c.args in
-    opened_part a.keys.now a.i a.first a.second c.requires.1 c.requires.3 c.begun.auto.words c.begun.ensures
+    opened_part a.keys.now a.i a.key.first a.key.second c.requires.1 c.requires.3 c.begun.auto.words c.begun.ensures

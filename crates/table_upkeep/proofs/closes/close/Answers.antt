@@ -1,18 +1,16 @@
--- By the way that `way_of` gives, a close refuses, or lends the parts of the channel's place to the call on one place and clears the key of the
--- place where that call freed it (Events of table_calls).
+-- By the way that `way_of` gives, a close refuses, or lends the parts of the channel's place to the call on one place, and clears the key of the
+-- place that this call freed (Events of table_calls).
 use Rattle.std.proofs.Common.{refl, arith}
 use Rattle.larq.specs.Events.{close}
 use Rattle.place.specs.Call.{parts, buffers}
-use Rattle.table_calls.proofs.Events.{told, by_key, Goes, goes, closed_did, turned_did}
+use Rattle.table.specs.Words.{key_in}
+use Rattle.table_calls.proofs.Events.{asked, Goes, goes, turned_did, closed_did, close_refused_did}
 use Rattle.table_upkeep.proofs.closes.close.Goals as goal
 
 -- the parts of the channel's place lie within the slices
-going : (c : goal.In-Known) → let a = c.args in
-    Goes (told a.keys.now a.words.now a.handles.now a.marks.now a.up.now a.returned.now a.nack.now a.destination.now a.source.now a.priority a.time) c.in-Known.i
-going c =
-    let a = c.args in
-    let t = told a.keys.now a.words.now a.handles.now a.marks.now a.up.now a.returned.now a.nack.now a.destination.now a.source.now a.priority a.time in
-    goes t close 0 refl _ _ (by_key t 0 _ _ c.first_word.ensures c.address.ensures.0 _ c.way_of-way.ensures) c.in-Known.is
+going : (c : goal.In_ok-i) → let a = c.args in
+    Goes (asked a.keys.now a.words.now a.handles.now a.marks.now a.up.now a.returned.now a.nack.now (key_in a.key) a.time) c.in_ok-i.i
+going c = goes _ close 0 refl c.of-lent.ensures c.stored.ensures _ c.in_ok-i.ensures
 
 pub overflow_mul-from : goal.overflow_mul-from
 overflow_mul-from c = omega (arith, going c)
@@ -29,16 +27,22 @@ offset_bounds-words-from c = omega (arith, going c)
 pub slice_bounds-close-end : goal.slice_bounds-close-end
 slice_bounds-close-end c = omega (arith, going c)
 
-pub returns-in-Known : goal.returns-in-Known
-returns-in-Known c =
+pub free_key-requires : goal.free_key-requires
+free_key-requires c =
     let a = c.args in
-    let t = told a.keys.now a.words.now a.handles.now a.marks.now a.up.now a.returned.now a.nack.now a.destination.now a.source.now a.priority a.time in
-    closed_did t _ _ _ (parts _ _ _) (buffers _ _ _) _
-    (by_key t 0 _ _ c.first_word.ensures c.address.ensures.0 _ c.way_of-way.ensures) c.in-Known.is
-    (record { words = c.close-answer.auto.words; handles = c.close-answer.auto.handles; marks = c.close-answer.auto.marks }) c.close-answer.ensures c.free_key.ensures
+    let t = asked a.keys.now a.words.now a.handles.now a.marks.now a.up.now a.returned.now a.nack.now (key_in a.key) a.time in
+    let at = goes t close 0 refl c.of-lent.ensures c.stored.ensures _ c.in_ok-i.ensures in
+    (at.keys_sized, at.here)
 
-pub returns-in-Refused : goal.returns-in-Refused
-returns-in-Refused c =
-    let a = c.args in
-    let t = told a.keys.now a.words.now a.handles.now a.marks.now a.up.now a.returned.now a.nack.now a.destination.now a.source.now a.priority a.time in
-    turned_did t close 0 refl refl _ _ _ (by_key t 0 _ _ c.first_word.ensures c.address.ensures.0 _ c.way_of-way.ensures) c.in-Refused.is c.refused.ensures
+pub returns-in_err-i : goal.returns-in_err-i
+returns-in_err-i c = turned_did _ close 0 refl c.of-lent.ensures c.stored.ensures refl _ c.in_err-i.ensures _ c.from_residual.ensures.1
+
+pub returns-in_err-answer : goal.returns-in_err-answer
+returns-in_err-answer c =
+    close_refused_did _ c.of-lent.ensures c.stored.ensures _ c.in_ok-i.ensures (parts _ _ _) (buffers _ _ _) _
+    (record { words = c.close.auto.words; handles = c.close.auto.handles; marks = c.close.auto.marks }) c.in_err-answer.ensures _ c.from_residual-in_err-answer.ensures.1
+
+pub returns : goal.returns
+returns c =
+    closed_did _ c.of-lent.ensures c.stored.ensures _ c.in_ok-i.ensures _ (parts _ _ _) (buffers _ _ _) _
+    (record { words = c.close.auto.words; handles = c.close.auto.handles; marks = c.close.auto.marks }) c.in_ok-answer.ensures c.free_key.ensures

@@ -2,16 +2,14 @@
 use Rattle.std.proofs.Common.{refl, arith}
 use Rattle.larq.specs.Events.{tick}
 use Rattle.place.specs.Call.{parts, buffers}
-use Rattle.table_calls.proofs.Events.{told, by_key, Goes, goes, kept_did, turned_did}
+use Rattle.table.specs.Words.{key_in}
+use Rattle.table_calls.proofs.Events.{asked, Goes, goes, kept_did, turned_did}
 use Rattle.table_upkeep.proofs.ticks.tick.Goals as goal
 
 -- the parts of the channel's place lie within the slices
-going : (c : goal.In-Known) → let a = c.args in
-    Goes (told a.keys.now a.words.now a.handles.now a.marks.now a.up.now a.returned.now a.nack.now a.destination.now a.source.now a.priority a.time) c.in-Known.i
-going c =
-    let a = c.args in
-    let t = told a.keys.now a.words.now a.handles.now a.marks.now a.up.now a.returned.now a.nack.now a.destination.now a.source.now a.priority a.time in
-    goes t tick 0 refl _ _ (by_key t 0 _ _ c.first_word.ensures c.address.ensures.0 _ c.way_of-way.ensures) c.in-Known.is
+going : (c : goal.In_ok-i) → let a = c.args in
+    Goes (asked a.keys.now a.words.now a.handles.now a.marks.now a.up.now a.returned.now a.nack.now (key_in a.key) a.time) c.in_ok-i.i
+going c = goes _ tick 0 refl c.of-lent.ensures c.stored.ensures _ c.in_ok-i.ensures
 
 pub overflow_mul-from : goal.overflow_mul-from
 overflow_mul-from c = omega (arith, going c)
@@ -28,16 +26,10 @@ offset_bounds-words-from c = omega (arith, going c)
 pub slice_bounds-tick-end : goal.slice_bounds-tick-end
 slice_bounds-tick-end c = omega (arith, going c)
 
-pub returns-in-Known : goal.returns-in-Known
-returns-in-Known c =
-    let a = c.args in
-    let t = told a.keys.now a.words.now a.handles.now a.marks.now a.up.now a.returned.now a.nack.now a.destination.now a.source.now a.priority a.time in
-    kept_did t tick 0 refl refl _ _ (parts _ _ _) (buffers _ _ _) _
-    (by_key t 0 _ _ c.first_word.ensures c.address.ensures.0 _ c.way_of-way.ensures) c.in-Known.is
-    (record { words = c.tick.auto.words; handles = c.tick.auto.handles; marks = c.tick.auto.marks }) c.tick.ensures
+pub returns-in_err-i : goal.returns-in_err-i
+returns-in_err-i c = turned_did _ tick 0 refl c.of-lent.ensures c.stored.ensures refl _ c.in_err-i.ensures _ c.from_residual.ensures.1
 
-pub returns-in-Refused : goal.returns-in-Refused
-returns-in-Refused c =
-    let a = c.args in
-    let t = told a.keys.now a.words.now a.handles.now a.marks.now a.up.now a.returned.now a.nack.now a.destination.now a.source.now a.priority a.time in
-    turned_did t tick 0 refl refl _ _ _ (by_key t 0 _ _ c.first_word.ensures c.address.ensures.0 _ c.way_of-way.ensures) c.in-Refused.is c.refused.ensures
+pub returns : goal.returns
+returns c =
+    kept_did _ tick 0 refl c.of-lent.ensures c.stored.ensures refl _ c.in_ok-i.ensures (parts _ _ _) (buffers _ _ _) _
+    (record { words = c.tick.auto.words; handles = c.tick.auto.handles; marks = c.tick.auto.marks }) c.tick.ensures
