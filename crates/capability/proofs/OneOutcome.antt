@@ -1,5 +1,6 @@
 -- One outcome: any two answers that a contract allows are equal (document 01, 'How far a statement has to reach'). Assumes nothing.
 -- An answer's contract fixes its outcome, and an outcome is one answer's, since no two cases of the timer have the same order.
+use Prim.Native.Nat.{ℕ}
 use mathlib.Core.Path.{◌≡◌, refl, sym, ap, ◌∙◌}
 use mathlib.Core.Bool.{cond}
 use lib.Dec.{eqb}
@@ -10,7 +11,7 @@ use Rattle.capability.specs.declared.Answer.{Answer}
 use Rattle.capability.specs.declared.refused.Refused.{Refused}
 use Rattle.capability.specs.declared.refused.Refused.TheVariants.{Opcode}
 use Rattle.capability.specs.declared.Station.{Station}
-use Rattle.capability.specs.Answers.{Order, Outcome, order_of, outcome_of, outcome_or}
+use Rattle.capability.specs.Answers.{Order, Outcome, order_of, outcome_of, outcome_or, outcome_as}
 
 -- where a contract is an equation, as for `fresh`, `frame`, `current` and the numbers of a timer's order and of a refusal
 pub one_value : {A : Type 0} {a b x : A} → a ≡ x → b ≡ x → a ≡ b
@@ -52,3 +53,7 @@ whole_or s (Err Opcode) = refl
 -- and where an event may be refused, as a received frame
 pub one_result : (s : Station) {a b : Result Answer Refused} {o : Outcome} → outcome_or s a ≡ o → outcome_or s b ≡ o → a ≡ b
 one_result s {a} {b} p q = sym (whole_or s a) ∙ ap result_of (one_value p q) ∙ whole_or s b
+
+-- a number and an answer that are told as the same outcome are the same
+pub one_outcome_as : (n m : ℕ) (a b : Answer) → outcome_as n a ≡ outcome_as m b → (n ≡ m) × (a ≡ b)
+one_outcome_as n m a b e = (ap (λ (o : Outcome). o.number) e, sym (whole a) ∙ ap answer_of e ∙ whole b)

@@ -41,16 +41,20 @@ pub record Outcome : Type 0 where
   pub reported : ℕ
   pub timer : Order
 
--- an answer has number 0
-abbrev pub outcome_of : Answer → Outcome
-outcome_of a = record {
-  number = 0;
+-- a number beside an answer, as a host is told of both
+abbrev pub outcome_as : ℕ → Answer → Outcome
+outcome_as n a = record {
+  number = n;
   station = a.station;
   sends = a.sends;
   frame = a.frame;
   reported = a.reported;
   timer = order_of a.timer;
 }
+
+-- an answer has number 0
+abbrev pub outcome_of : Answer → Outcome
+outcome_of = outcome_as 0
 
 -- the answer that leaves this station, with the sets as they then are
 abbrev pub outcome_with : ℕ → Station → Bool → ℕ → Order → Outcome

@@ -6,7 +6,7 @@ mod refused;
 
 ghost use Rattle.std.specs.Prelude.{◌≡◌};
 ghost use Rattle.capability.specs.Sets.{current_tx, current_rx, carried};
-ghost use Rattle.capability.specs.Answers.{order_of, order_number, start_if, cancel_then_start_if, outcome_of, outcome_or, accepted};
+ghost use Rattle.capability.specs.Answers.{order_of, order_number, start_if, cancel_then_start_if, outcome_of, outcome_or, outcome_as, accepted};
 ghost use Rattle.capability.specs.Events.{fresh, unannounced, added_tx, rolled_tx, rolled_rx, really_new, taken_away, heard_rx, used, ended, received};
 
 use crate::opcode::Opcode;
@@ -172,6 +172,11 @@ impl Frame {
 }
 
 impl Station {
+    pub const ACCEPTED: u8 = 0;
+
+    // An opcode above 1.
+    pub const REFUSED: u8 = 30;
+
     pub fn fresh(default: u32) -> Station
         ensures { result ≡ fresh default }
     {
@@ -227,6 +232,16 @@ impl Station {
         self.rx = self.rx.heard(frame);
         let timer = Timer::start_if(opcode == Opcode::Request);
         Ok(self.answer(false, new, timer))
+    }
+
+    // What a host is told of the result at this station: ACCEPTED and the answer, or the refusal's number, and this station with nothing to do.
+    pub fn told(self, answered: Result<Answer, Refused>) -> (u8, Answer)
+        ensures { outcome_as result.0 result.1 ≡ outcome_or self answered }
+    {
+        match answered {
+            Ok(answer) => (Station::ACCEPTED, answer),
+            Err(refused) => (refused.into(), self.answer(false, 0, Timer::Kept)),
+        }
     }
 
     fn answer(self, sends: bool, reported: u32, timer: Timer) -> Answer

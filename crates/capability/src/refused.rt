@@ -2,6 +2,7 @@
 ghost use Rattle.std.specs.Prelude.{◌≡◌, Some};
 ghost use Rattle.capability.specs.Refused.{number_of, words_of};
 
+use crate::Station;
 use std::error::Error;
 use std::fmt;
 
@@ -16,7 +17,7 @@ impl From<Refused> for u8 {
 
     fn from(refused: Refused) -> u8 {
         match refused {
-            Refused::Opcode => 30,
+            Refused::Opcode => Station::REFUSED,
         }
     }
 }

@@ -35,6 +35,10 @@ abbrev pub told : Result Answer Refused → Told
 told (Ok a) = record { number = 0; up = a.up; returned = a.returned; nack = a.nack; lost = a.lost }
 told (Err e) = record { number = number_of e; up = 0; returned = 0; nack = 0; lost = 0 }
 
+-- a number beside an answer, as a host is told of both
+abbrev pub told_as : ℕ → Answer → Told
+told_as n a = record { number = n; up = a.up; returned = a.returned; nack = a.nack; lost = a.lost }
+
 -- what a call tells is the rule's: number, counts, lists and lost count, and what the buffers then hold
 pub record Answered (rule : Outcome ℕ) (before after : Buffers) (given : Told) : Type 0 where
   pub number : given.number ≡ rule.answer.number

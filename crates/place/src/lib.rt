@@ -2,9 +2,10 @@
 // A call on one open place: what it answers, and what it promises (specs/Call.antt). The laws that a frame and the events that bring none share
 // stand here too.
 ghost use Rattle.std.specs.Prelude.{◌≡◌};
-ghost use Rattle.place.specs.Call.{Begins};
+ghost use Rattle.place.specs.Call.{Begins, told, told_as};
 ghost use Rattle.place.specs.Steps.{answer_of};
 
+use larq::Refused;
 use record::Record;
 use ring::Seq;
 use stepping::Counts;
@@ -39,6 +40,16 @@ impl From<Counts> for Answer {
             lost: counts.lost,
             ..Answer::NONE
         }
+    }
+}
+
+// What a host is told of a call's result: 0 and the answer, or the refusal's number and zeros.
+pub fn told(answered: Result<Answer, Refused>) -> (u8, Answer)
+    ensures { told_as result.0 result.1 ≡ told answered }
+{
+    match answered {
+        Ok(answer) => (0, answer),
+        Err(refused) => (refused.into(), Answer::NONE),
     }
 }
 

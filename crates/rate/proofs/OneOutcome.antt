@@ -8,7 +8,7 @@ use Rattle.std.specs.Prelude.{Option, Some, None, Result, Ok, Err, option_map}
 use Rattle.rate.specs.declared.refused.Refused.{Refused}
 use Rattle.rate.specs.declared.rates.Band.{Band}
 use Rattle.rate.specs.declared.rates.Band.TheVariants.{One, Two}
-use Rattle.rate.specs.Writing.{Written, written, Wrote}
+use Rattle.rate.specs.Writing.{Written, written, written_as, Wrote}
 use Rattle.rate.specs.Rates.{rate_of, chosen_of, band_of, rate_of_band}
 use Rattle.rate.proofs.Numbers.{one_refused, not_zero}
 
@@ -21,6 +21,10 @@ same_written (Ok m) (Ok n) e = ap Ok (ap (λ (w : Written). w.count) e)
 same_written (Ok m) (Err d) e = absurd (not_zero d (sym (ap (λ (w : Written). w.number) e)))
 same_written (Err d) (Ok n) e = absurd (not_zero d (ap (λ (w : Written). w.number) e))
 same_written (Err d) (Err c) e = ap Err (one_refused d c (ap (λ (w : Written). w.number) e))
+
+-- and the number and the count
+pub one_written_as : (n m count count' : ℕ) → written_as n count ≡ written_as m count' → (n ≡ m) × (count ≡ count')
+one_written_as n m count count' e = (ap (λ (w : Written). w.number) e, ap (λ (w : Written). w.count) e)
 
 pub one_rate : (pe : ℕ) (r t : Option ℕ) → r ≡ rate_of pe → t ≡ rate_of pe → r ≡ t
 one_rate pe r t p q = p ∙ sym q

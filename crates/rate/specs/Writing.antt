@@ -75,6 +75,10 @@ abbrev pub written : Result ℕ Refused → Written
 written (Ok n) = record { number = 0; count = n }
 written (Err e) = record { number = number_of e; count = 0 }
 
+-- a number beside a count, as a host is told of both
+abbrev pub written_as : ℕ → ℕ → Written
+written_as n count = record { number = n; count = count }
+
 -- what the writer answers: 0 and how many octets it wrote, or a refusal's number and 0
 unfoldable pub write_of : Request → List ℕ → ℕ → Written
 write_of q a room = answered (λ n. record { number = n; count = 0 }) (writer_refusals q a room) (record { number = 0; count = length (frame_for q a) })

@@ -11,7 +11,7 @@ pub use refused::Refused;
 pub use rules::{
     band_one_right, band_two_right, group_addresses, opcode_right, ranks_right, some_band,
 };
-pub use writer::write;
+pub use writer::{told, write};
 
 // A request, as it is read and as it is to be written. Its addresses stand beside it, in the octets that hold them.
 #[derive(Clone, Copy, Debug, PartialEq, Eq, Default)]

@@ -4,7 +4,7 @@ ghost use Rattle.wire.specs.Laying.{Lays};
 ghost use Rattle.wire.specs.Refusals.{first};
 ghost use Rattle.wire.specs.Answers.{number_in};
 ghost use Rattle.rate.specs.Refused.{number_of};
-ghost use Rattle.rate.specs.Writing.{layout_holds, absent_band_empty, band_part, frame_for, writer_refusals, Layable, Frames, written, Wrote};
+ghost use Rattle.rate.specs.Writing.{layout_holds, absent_band_empty, band_part, frame_for, writer_refusals, Layable, Frames, written, written_as, Wrote};
 
 use crate::rules::{
     band_one_right, band_two_right, group_addresses, opcode_right, ranks_right, some_band,
@@ -19,6 +19,16 @@ pub fn write(out: &mut [u8], request: Request, addresses: &[u8]) -> Result<usize
 {
     test(request, addresses, out.len())?;
     Ok(put(out, request, addresses))
+}
+
+// What a host is told of the result: 0 and how many octets the frame has, or the refusal's number and 0.
+pub fn told(answered: Result<usize, Refused>) -> (u8, usize)
+    ensures { written_as result.0 result.1 ≡ written answered }
+{
+    match answered {
+        Ok(count) => (0, count),
+        Err(refused) => (refused.into(), 0),
+    }
 }
 
 // The first refusal, if there is one.

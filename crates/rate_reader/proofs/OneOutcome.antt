@@ -10,7 +10,7 @@ use Rattle.rate.specs.declared.refused.Refused.{Refused}
 use Rattle.rate.proofs.Numbers.{not_zero, one_refused}
 use Rattle.rate_reader.specs.declared.Reading.{Reading}
 use Rattle.rate_reader.specs.declared.reader.Received.{Received}
-use Rattle.rate_reader.specs.Reading.{Read, read, read_of}
+use Rattle.rate_reader.specs.Reading.{Read, read, read_as, read_of}
 use Rattle.rate_reader.specs.Receiving.{Receives}
 
 pub one_read : (s : List ℕ) {r t : Read} → r ≡ read_of s → t ≡ read_of s → r ≡ t
@@ -26,6 +26,10 @@ same_read (Ok x) (Ok y) e = ap Ok (ap reading_back e)
 same_read (Ok x) (Err d) e = absurd (not_zero d (sym (ap (λ (a : Read). a.number) e)))
 same_read (Err d) (Ok y) e = absurd (not_zero d (ap (λ (a : Read). a.number) e))
 same_read (Err d) (Err c) e = ap Err (one_refused d c (ap (λ (a : Read). a.number) e))
+
+-- and the number and the reading
+pub one_read_as : (n m : ℕ) (r t : Reading) → read_as n r ≡ read_as m t → (n ≡ m) × (r ≡ t)
+one_read_as n m r t e = (ap (λ (a : Read). a.number) e, ap reading_back e)
 
 pub record SameReceived (r t : Received) : Type 0 where
   pub reading : r.reading ≡ t.reading

@@ -148,3 +148,7 @@ read_of s = answered refused_by (refusals s) (accepted s)
 abbrev pub read : Result Reading Refused → Read
 read (Ok r) = record { number = 0; request = r.request; addresses = r.addresses; start = r.start; extent = r.extent }
 read (Err e) = refused_by (number_of e)
+
+-- a number beside a reading, as a host is told of both
+abbrev pub read_as : ℕ → Reading → Read
+read_as n r = record { number = n; request = r.request; addresses = r.addresses; start = r.start; extent = r.extent }

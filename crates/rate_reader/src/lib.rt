@@ -4,7 +4,7 @@ mod fields;
 mod reader;
 
 use rate::Request;
-pub use reader::{Received, read, receive};
+pub use reader::{Received, read, receive, told};
 
 // What is read of an accepted frame: the request, the number of addresses, and where the frame holds them.
 #[derive(Clone, Copy, Debug, PartialEq, Eq, Default)]

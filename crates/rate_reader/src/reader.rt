@@ -3,7 +3,7 @@ ghost use Rattle.std.specs.Prelude.{◌≡◌, take, drop, Ok};
 ghost use Rattle.wire.specs.Refusals.{first, answered};
 ghost use Rattle.wire.specs.Answers.{number_in};
 ghost use Rattle.rate.specs.Refused.{number_of};
-ghost use Rattle.rate_reader.specs.Reading.{refusals, refused_by, given_of, accepted, read, read_of};
+ghost use Rattle.rate_reader.specs.Reading.{refusals, refused_by, given_of, accepted, read, read_as, read_of};
 ghost use Rattle.rate_reader.specs.Receiving.{Receives};
 
 use crate::{Reading, fields};
@@ -15,6 +15,16 @@ pub fn read(frame: &[u8]) -> Result<Reading, Refused>
 {
     departs(frame)?;
     request(frame)
+}
+
+// What a host is told of the result: 0 and what was read, or the refusal's number and zeros.
+pub fn told(answered: Result<Reading, Refused>) -> (u8, Reading)
+    ensures { read_as result.0 result.1 ≡ read answered }
+{
+    match answered {
+        Ok(reading) => (0, reading),
+        Err(refused) => (refused.into(), Reading::default()),
+    }
 }
 
 // What is received: the reading, and of the caller's frame the octets where the addresses stand.

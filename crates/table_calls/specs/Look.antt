@@ -66,6 +66,10 @@ abbrev pub seen : Result View Refused → Seen
 seen (Ok v) = record { number = 0; current = v.current; oldest = v.oldest; latest = v.latest; span = v.span }
 seen (Err e) = record { number = number_of e; current = 0; oldest = 0; latest = 0; span = 0 }
 
+-- a number beside a view, as a host is told of both
+abbrev pub seen_as : ℕ → View → Seen
+seen_as n v = record { number = n; current = v.current; oldest = v.oldest; latest = v.latest; span = v.span }
+
 -- the answer to a look
 pub record Looked (shown : Shown) (waited waits valued values : List ℕ) (given : Seen) : Type 0 where
   pub number : given.number ≡ shown.number

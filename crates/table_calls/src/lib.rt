@@ -5,4 +5,4 @@ mod emptying;
 mod looking;
 
 pub use emptying::empty;
-pub use looking::{View, look};
+pub use looking::{View, look, told};

@@ -7,7 +7,7 @@ ghost use Rattle.record.specs.Place.{cells_from, cell_at, record_of};
 ghost use Rattle.record.specs.Cell.{cell_of};
 ghost use Rattle.table.specs.Words.{key_in};
 ghost use Rattle.table.specs.Table.{slices, table_of};
-ghost use Rattle.table_calls.specs.Look.{shown_at, shown_of, lent_for, cell_mark, cell_value, Looked, seen};
+ghost use Rattle.table_calls.specs.Look.{shown_at, shown_of, lent_for, cell_mark, cell_value, Looked, seen, seen_as};
 
 use larq::Refused;
 use record::{Cell, Lengths};
@@ -21,6 +21,26 @@ pub struct View {
     pub oldest: u16,
     pub latest: u64,
     pub span: usize,
+}
+
+impl View {
+    // What a refusal shows.
+    const NONE: View = View {
+        current: 0,
+        oldest: 0,
+        latest: 0,
+        span: 0,
+    };
+}
+
+// What a host is told of a look's result: 0 and the view, or the refusal's number and zeros.
+pub fn told(looked: Result<View, Refused>) -> (u8, View)
+    ensures { seen_as result.0 result.1 ≡ seen looked }
+{
+    match looked {
+        Ok(view) => (0, view),
+        Err(refused) => (refused.into(), View::NONE),
+    }
 }
 
 // A cell as two numbers: 1 and the handle where it waits, 0 and the time where it is missing.
