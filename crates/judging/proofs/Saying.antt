@@ -4,6 +4,7 @@ use Prim.Native.Nat.{ℕ}
 use mathlib.Core.Path.{◌≡◌, refl, ap, sym}
 use mathlib.Core.Bool.{Bool, true, false, cond}
 use mathlib.Core.List.{List, [], ◌∷◌}
+use lib.ListN.{length}
 use Rattle.wire.specs.Answers.{accepted, refused}
 use Rattle.wire.proofs.Said.{number_is, values_are, some_none}
 use Rattle.wire.specs.Refusals.{Refusal, answered}
@@ -12,7 +13,8 @@ use Rattle.ring.specs.Ring.{is_number}
 use Rattle.larq.specs.Channel.{window, sound}
 use Rattle.larq.specs.Table.{Lent, lent_enough, not_before}
 use Rattle.slots.specs.Slots.{current_in, oldest_in, latest_in}
-use Rattle.record.specs.Place.{record_of}
+use Rattle.record.specs.Place.{record_of, place_lent}
+use Rattle.record.specs.declared.Lengths.{Lengths}
 use Rattle.record.specs.declared.Record.{Record}
 use Rattle.judging.specs.Judge.{common, judged_says, judged_for}
 use Rattle.std.specs.Prelude.{Result, Ok, Err}
@@ -42,6 +44,10 @@ said_accepted (r ∷ l) u us vs e = go r.passes refl e (said_accepted l u us vs)
         → ((r.passes ≡ true) × AllPass l) × ((u ∷ us) ≡ vs)
     go true f q later = let x = later q in ((f, x.0), x.1)
     go false f q later = absurd (some_none u us (values_are (accepted (u ∷ us)) (refused r.number) q))
+
+-- what is lent, as `judge` has it: the words and marks by their own lengths, the others as they are told
+abbrev pub measured : List ℕ → List ℕ → Lengths → Lent
+measured words marks l = place_lent (length words) l.handles (length marks) l.up l.returned l.nack
 
 -- all of them pass, and the record is at hand
 pub record OpenAt (l : Lent) (words marks : List ℕ) (s time : ℕ) (r : Record) : Type 0 where

@@ -1,12 +1,11 @@
 #![tactic(auto)]
 // What is decided of an event before anything is written: the number that refuses it, or where its number lies.
 // Document 01, 'Numbers the box may answer with' and 'The channel table'.
-ghost use Rattle.std.specs.Prelude.{◌≡◌, ◌<◌, []};
+ghost use Rattle.std.specs.Prelude.{◌≡◌, ◌<◌, [], length};
 ghost use Rattle.larq.specs.Channel.{orderly, sound, window};
 ghost use Rattle.ring.specs.Ring.{size};
 ghost use Rattle.slots.specs.Slots.{current_in, oldest_in, latest_in};
-ghost use Rattle.record.specs.Lengths.{lent_by};
-ghost use Rattle.record.specs.Place.{record_of, sound_at};
+ghost use Rattle.record.specs.Place.{record_of, sound_at, place_lent};
 ghost use Rattle.judging.specs.Judge.{in_ring, times_of, in_shape, judged_says, judged_for, spot_for};
 
 use larq::{Refused, WINDOW};
@@ -88,7 +87,7 @@ pub fn is_sound(words: &[u64], marks: &[u8]) -> bool
 }
 
 // The record that an event acts on, or what refuses it: the numbers 1, 2, 6 and 7, in this order. A tick and a close have no number of their own, and
-// give 0.
+// give 0. The words and marks at hand are measured here, whatever is told of their lengths; a caller that told them by `Lengths::of` pays nothing for it.
 pub fn judge(
     words: &[u64],
     marks: &[u8],
@@ -96,8 +95,14 @@ pub fn judge(
     number: u16,
     time: u64,
 ) -> Result<Record, Refused>
-    ensures { judged_says result ≡ judged_for (lent_by lent) words.now marks.now number time }
+    ensures { judged_says result
+        ≡ judged_for (place_lent (length words.now) lent.handles (length marks.now) lent.up lent.returned lent.nack) words.now marks.now number time }
 {
+    let lent = Lengths {
+        words: words.len(),
+        marks: marks.len(),
+        ..lent
+    };
     if !lent.lent_enough() {
         return Err(Refused::Lent);
     }

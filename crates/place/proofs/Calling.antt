@@ -21,12 +21,12 @@ use Rattle.std.specs.Prelude.{Result, Ok, Err}
 use Rattle.std.proofs.Common.{arith, rules}
 use Rattle.std.specs.Result.{IsErrAnd}
 use Rattle.std.proofs.lemmas.Result.{err_from_is_err_and}
-use Rattle.record.specs.Lengths.{lengths_of, lent_by}
+use Rattle.record.specs.Lengths.{lengths_of}
 use Rattle.record.specs.declared.Lengths.{Lengths}
 use Rattle.record.specs.declared.Record.{Record}
 use Rattle.judging.specs.Judge.{common, judged_says, judged_for}
 use Rattle.judging.proofs.Refusing.{common_to_all}
-use Rattle.judging.proofs.Saying.{said_refused}
+use Rattle.judging.proofs.Saying.{measured, said_refused}
 use Rattle.judging.proofs.Sounds.{sound_handles}
 use Rattle.record.proofs.Laying.{wrote_idle}
 use Rattle.place.proofs.Opening.{Stopped, Opened, stopped_by}
@@ -93,7 +93,7 @@ module _ {p : Parts} {b : Buffers} {s time : ℕ} (act : Act ℕ) (number : numb
 -- The exit at which a call hands on what judged it: what refused the event is what the call answers, and nothing has changed.
 pub called_exit : {p : Parts} {b : Buffers} {time : ℕ} {act : Act ℕ} {l : Lengths} {j : Result Record Refused} {e : Refused} (s : ℕ)
     → number_in_ring act ≡ leb s 4095 → l ≡ lengths_of p.words p.handles p.marks b.up b.returned b.nack
-    → judged_says j ≡ judged_for (lent_by l) p.words p.marks s time → j ≡ Err e → (result : Result Answer Refused)
+    → judged_says j ≡ judged_for (measured p.words p.marks l) p.words p.marks s time → j ≡ Err e → (result : Result Answer Refused)
     → IsErrAnd result (λ f. f ≡ e) → Called act time p p b b (told result)
 called_exit {p} {b} {time} {act} s number lengths says is result gives =
     let out = err_from_is_err_and result gives in

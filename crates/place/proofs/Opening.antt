@@ -24,10 +24,10 @@ use Rattle.place.specs.Steps.{Ready, IsAhead, Waits, Missing}
 use Rattle.judging.specs.Judge.{judged_says, judged_for, in_ring, in_shape}
 use Rattle.record.specs.declared.Record.{Record}
 use Rattle.record.specs.declared.Lengths.{Lengths}
-use Rattle.record.specs.Lengths.{lengths_of, lent_by}
+use Rattle.record.specs.Lengths.{lengths_of}
 use Rattle.record.proofs.Windows.{length_cells_from, cells_from_suc, cell_waits}
 use Rattle.wire.proofs.Joined.{and_left, and_right}
-use Rattle.judging.proofs.Saying.{OpenAt, open_at}
+use Rattle.judging.proofs.Saying.{measured, OpenAt, open_at}
 use Rattle.judging.proofs.Sounds.{ring_of, sound_is}
 use Rattle.record.proofs.Sizes.{Enough, enough_of}
 
@@ -54,10 +54,10 @@ pub record Opened (p : Parts) (b : Buffers) (s time : ℕ) (r : Record) : Type 0
 
 -- The judgement of a call that tells the lengths of what it was lent.
 module _ (p : Parts) (b : Buffers) (s time : ℕ) {l : Lengths} (lengths : l ≡ lengths_of p.words p.handles p.marks b.up b.returned b.nack) where
-  asked : judged_for (lent_by l) p.words p.marks s time ≡ decided p b s time
-  asked = ap (λ x. judged_for (lent_by x) p.words p.marks s time) lengths
+  asked : judged_for (measured p.words p.marks l) p.words p.marks s time ≡ decided p b s time
+  asked = ap (λ x. judged_for (measured p.words p.marks x) p.words p.marks s time) lengths
 
-  module _ {j : Result Record Refused} (says : judged_says j ≡ judged_for (lent_by l) p.words p.marks s time) where
+  module _ {j : Result Record Refused} (says : judged_says j ≡ judged_for (measured p.words p.marks l) p.words p.marks s time) where
     pub stopped_by : {e : Refused} → j ≡ Err e → Stopped p b s time e
     stopped_by is = record { by = sym (ap judged_says is) ∙ (says ∙ asked) }
 

@@ -1,14 +1,14 @@
 -- The first test that fails gives its number (Refusing).
 use Rattle.std.proofs.Common.{sym, ◌∙◌}
-use Rattle.record.specs.Lengths.{lent_by}
 use Rattle.judging.proofs.Sounds.{sound_ring_of}
 use Rattle.judging.proofs.Refusing.{refused_7, opens}
+use Rattle.judging.proofs.Saying.{measured}
 use Rattle.judging.proofs.judge.Goals as goal
 
 pub returns-then-time-latest : goal.returns-then-time-latest
 returns-then-time-latest c =
     let a = c.args in
-    refused_7 (lent_by a.lent) a.words.now a.marks.now a.number a.time
+    refused_7 (measured a.words.now a.marks.now a.lent) a.words.now a.marks.now a.number a.time
     (sym c.lent_enough.ensures ∙ c.if-not-lent_enough.false)
     c.if-number-ge-SIZE.false
     (sym c.is_whole.ensures ∙ c.if-not-is_whole.false)
@@ -21,7 +21,7 @@ pub returns : goal.returns
 returns c =
     let a = c.args in
     let r = c.read in
-    opens (lent_by a.lent) a.words.now a.marks.now a.number a.time
+    opens (measured a.words.now a.marks.now a.lent) a.words.now a.marks.now a.number a.time
     (sym c.lent_enough.ensures ∙ c.if-not-lent_enough.false)
     c.if-number-ge-SIZE.false
     (sym c.is_whole.ensures ∙ c.if-not-is_whole.false)
