@@ -36,6 +36,13 @@ use Rattle.stepping.proofs.Stamping.{length_stamped}
 use Rattle.place.proofs.Places.{walked}
 use Rattle.place.proofs.Growing.{Grows, walk_again, past_few, walk_grown, up_room, asked_grown}
 
+-- the step can be taken, and so it is
+pub stepped : {r : Record} {W H K U N w₁ k₁ u₁ q₁ : List ℕ} {s k t : ℕ} {last : Last} {p : Passed} → Ready r W H K → IsAhead r.current.0 s k last
+    → window ≤ length U → window ≤ length N
+    → Widens r s k t W H K U N w₁ k₁ u₁ q₁ p
+    → Widened r s k t W H K U N w₁ k₁ u₁ q₁ p
+stepped {r = r} {W = W} {H = H} {K = K} {U = U} {N = N} {s = s} {k = k} ready is_ahead_law room-up room-nack widens = grind (arith, can_step_law)
+
 -- What a step ahead finds and leaves: a record that is not broken, s ahead of C, room for what goes up and for what is asked for, and C at s.
 pub record Stepped (r : Record) (W H K U N w₁ k₁ u₁ q₁ : List ℕ) (s k t : ℕ) (last : Last) (p : Passed) : Type 0 where
   pub ready : Ready r W H K
@@ -45,11 +52,19 @@ pub record Stepped (r : Record) (W H K U N w₁ k₁ u₁ q₁ : List ℕ) (s k 
   pub room_nack : window ≤ length N
   pub wide : Widened r s k t W H K U N w₁ k₁ u₁ q₁ p
 
--- the step can be taken, and so it is
-pub stepped : {r : Record} {W H K U N w₁ k₁ u₁ q₁ : List ℕ} {s k t : ℕ} {last : Last} {p : Passed} → Ready r W H K × (s < size)
+-- and so the step is taken: all of its facts at once
+pub step_taken : {r : Record} {W H K U N w₁ k₁ u₁ q₁ : List ℕ} {s k t : ℕ} {last : Last} {p : Passed} → Ready r W H K × (s < size)
     → (window ≤ length U) × (window ≤ length N) → IsAhead r.current.0 s k last → Widens r s k t W H K U N w₁ k₁ u₁ q₁ p
     → Stepped r W H K U N w₁ k₁ u₁ q₁ s k t last p
-stepped {r = r} {W = W} {H = H} {K = K} {U = U} {N = N} {s = s} {k = k} found room is_ahead_law widens = grind (arith, can_step_law)
+step_taken found room is_ahead_law widens =
+    record {
+      ready = found.0;
+      s_ring = found.1;
+      ahead = is_ahead_law;
+      room_up = room.0;
+      room_nack = room.1;
+      wide = stepped found.0 is_ahead_law room.0 room.1 widens;
+    }
 
 -- C has come to s: the facts of a step from which M settles.
 module _ {r : Record} {W H K U N w₁ k₁ u₁ q₁ : List ℕ} {s k t : ℕ} {last : Last} {p : Passed} (step : Stepped r W H K U N w₁ k₁ u₁ q₁ s k t last p) where
