@@ -20,7 +20,7 @@ use Rattle.record.specs.Walk.{earlier, passes, waiting_of}
 use Rattle.slots.proofs.Stores.{mark_stores}
 use Rattle.stepping.specs.Step.{times_missing, marks_missing}
 use Rattle.place.specs.Steps.{Sized, cells_of, handles_with, marks_with, Last, Waits, Missing}
-use Rattle.record.proofs.Rounds.{slots_apart, span_end}
+use Rattle.record.proofs.Rounds.{slots_apart, span_end, span_between}
 use Rattle.record.proofs.Windows.{length_cells_from, drop_cells_from, take_cells_from}
 use Rattle.record.proofs.Waiting.{waiting_cells_from}
 use Rattle.stepping.proofs.Stamping.{length_stamped}
@@ -78,6 +78,10 @@ module _ {w c m s k n d over past count first : ℕ} {last : Last} (g : Grows w 
   -- a waiting last number follows those that became missing
   last_follows : length (cells_of last) ≡ 1 → forward first count ≡ s
   last_follows e = grind arith
+
+  -- the span when s is C and M has passed what was too much
+  pub span_again : span_of s (forward m over) ≡ n + d - over
+  span_again = grind (arith, span_between)
 
   -- The window before and after.
   module _ (W H K : List ℕ) (sized : Sized W H K) (t : ℕ) where

@@ -2,12 +2,12 @@
 -- Document 01, 'Numbers in a ring of 4,096'. Nothing above this crate needs these laws: callers use Sides.
 use Prim.Native.Nat.{ℕ, zero, suc, ◌-◌, ◌≤◌, ◌<◌, ◌^◌}
 use mathlib.Core.Path.{◌≡◌, refl, sym, ap, ◌∙◌}
-use mathlib.Core.Bool.{Bool, true, false, cond, ◌&&◌, not}
+use mathlib.Core.Bool.{Bool, true, false, cond, ◌&&◌, ◌||◌, not}
 use native.Mathlib.Omega.{arith}
 use native.Mathlib.Decide.{dec_lt}
 use lib.Dec.{ltb}
 use lib.IntN.{ℤ, pos, negsuc, sub_ℕ, ◌-ℤ◌}
-use lib.Signed.{mag, lt_z}
+use lib.Signed.{mag, lt_z, le_z}
 use Rattle.std.proofs.Common.{Less, Equal}
 use Rattle.std.specs.Ordering.{is_le, int_cmp}
 use mir.Syntax.{w32}
@@ -40,15 +40,33 @@ module _ (a b n : ℕ) (z : ℤ) (is : n ≡ steps a b) (widened : z ≡ pos n) 
   unfolding distance
   lower_distance t = as_read ∙ sym (lower n (ltb-true n half (same_test ∙ t))) ∙ ap signed is
 
-  upper_fits : SFits w32 (pos n -ℤ pos size)
-  upper_fits = difference_fits n size (omega arith) (omega arith)
+  round_fits : SFits w32 (pos n -ℤ pos size)
+  round_fits = difference_fits n size (omega arith) (omega arith)
 
   pub upper_distance : (round : ℤ) → round ≡ pos size → lt_z (read z) (pos half) ≡ false → read (read z -ℤ read round) ≡ distance a b
   unfolding distance
   upper_distance round r t =
-      rw (as_read, r) (to_z-of_z w32 (pos n -ℤ pos size) upper_fits)
+      rw (as_read, r) (to_z-of_z w32 (pos n -ℤ pos size) round_fits)
       ∙ sym (a_round_less n (ltb-false n half (same_test ∙ t)))
       ∙ ap signed is
+
+-- What a test of n steps from a to b on an i32 tells of them, and that a round less of them fits one.
+module _ (a b n : ℕ) (is : n ≡ steps a b) where
+  as_steps : to_z w32 n ≡ pos n
+  as_steps = to_z_pos w32 n (omega arith)
+
+  module _ (bound : ℕ) where
+    same_bound : ltb n bound ≡ lt_z (to_z w32 n) (pos bound)
+    same_bound = sym (ap (λ (z : ℤ). lt_z z (pos bound)) as_steps)
+
+    pub under : lt_z (to_z w32 n) (pos bound) ≡ true → n < bound
+    under t = ltb-true n bound (same_bound ∙ t)
+
+    pub not_under : lt_z (to_z w32 n) (pos bound) ≡ false → bound ≤ n
+    not_under t = ltb-false n bound (same_bound ∙ t)
+
+  pub upper_fits : SFits w32 (to_z w32 n -ℤ pos size)
+  upper_fits = rw as_steps (difference_fits n size (omega arith) (omega arith))
 
 -- The tests, on a signed number. (`negsuc 63` is minus 64.)
 abbrev pub within : ℤ → ℤ → ℤ → Bool
@@ -100,3 +118,46 @@ far_test (negsuc n) = by_reach (dec_lt n 64)
     by_reach : Dec (n < 64) → not (within (negsuc 63) (pos 64) (negsuc n)) ≡ is_far (cond (ltb n 64) (Behind (suc n)) Far)
     by_reach (yes h) = rw (back_upto n (omega arith), lt-ltb n 64 h) refl
     by_reach (no h) = rw (back_past n (omega arith), le-ltb n 64 (omega arith)) refl
+
+-- The same tests by the order of numbers.
+far_by_order : (z : ℤ) → (lt_z z (negsuc 63) || lt_z (pos 64) z) ≡ is_far (side 64 z)
+unfolding side
+far_by_order (pos zero) = refl
+far_by_order (pos (suc n)) = by_reach (dec_lt n 64)
+  where
+    by_reach : Dec (n < 64) → ltb 64 (suc n) ≡ is_far (cond (ltb n 64) (Ahead (suc n)) Far)
+    by_reach (yes h) = rw (lt-ltb n 64 h) (le-ltb 64 (suc n) (omega arith))
+    by_reach (no h) = rw (le-ltb n 64 (omega arith)) (lt-ltb 64 (suc n) (omega arith))
+far_by_order (negsuc n) = by_reach (dec_lt n 64)
+  where
+    by_reach : Dec (n < 64) → (ltb 63 n || false) ≡ is_far (cond (ltb n 64) (Behind (suc n)) Far)
+    by_reach (yes h) = rw (lt-ltb n 64 h, le-ltb 63 n (omega arith))
+    by_reach (no h) = rw (le-ltb n 64 (omega arith), lt-ltb 63 n (omega arith))
+
+ahead_by_order : (z : ℤ) → (lt_z (pos 0) z && le_z z (pos 64)) ≡ is_ahead (side 64 z)
+unfolding side
+ahead_by_order (pos zero) = refl
+ahead_by_order (pos (suc n)) = rw (lt-ltb 0 (suc n) (omega arith)) (by_test (ltb n 64))
+  where
+    by_test : (t : Bool) → t ≡ is_ahead (cond t (Ahead (suc n)) Far)
+    by_test true = refl
+    by_test false = refl
+ahead_by_order (negsuc n) = by_test (ltb n 64)
+  where
+    by_test : (t : Bool) → false ≡ is_ahead (cond t (Behind (suc n)) Far)
+    by_test true = refl
+    by_test false = refl
+
+-- And of what the machine reads back from the bits of a number that fits.
+module _ (z : ℤ) (fits : mag z < 2 ^ 31) where
+  abbrev again : ℤ
+  again = to_z w32 (of_z w32 z)
+
+  same : again ≡ z
+  same = to_z-of_z w32 z (record { sfits = fits })
+
+  pub read_far : (lt_z again (negsuc 63) || lt_z (pos 64) again) ≡ is_far (side 64 z)
+  read_far = rw same (far_by_order z)
+
+  pub read_ahead : (lt_z (pos 0) again && le_z again (pos 64)) ≡ is_ahead (side 64 z)
+  read_ahead = rw same (ahead_by_order z)

@@ -3,11 +3,11 @@ use mathlib.Core.Path.{◌≡◌, refl, ◌∙◌, sym, ap}
 use mathlib.Core.Bool.{Bool, true, false, cond}
 use mathlib.Core.List.{List, [], ◌∷◌}
 use mathlib.Core.Option.{Option, none, some}
-use Prim.Native.Nat.{ℕ, ◌≤◌}
+use Prim.Native.Nat.{ℕ, zero, suc, ◌+◌, ◌≤◌, ◌<◌}
 use native.Mathlib.Omega.{arith}
 use borrow.Author.Tests.{eqb-true, leb-true, eq-eqb, le-leb}
 use lib.Dec.{eqb, leb}
-use Rattle.session.specs.Layout.{Form, forms, form_in, form_of, form_for, of_length, form_fits, end_of}
+use Rattle.session.specs.Layout.{Form, forms, form_in, form_of, form_for, of_length, form_fits, behind, end_of, end_in, fields_end, is_readable}
 
 pub some_eq : {f g : Form} → some f ≡ some g → f ≡ g
 some_eq e = cc
@@ -58,3 +58,42 @@ form_of_law k n f e = (by_length k n f e).0
 
 pub fits_of : (k n : ℕ) (f : Form) → form_for k n ≡ some f → form_fits f n ≡ true
 fits_of k n f e = (by_length k n f e).1
+
+-- Readable bodies, by the form of their kind.
+end_one : (f : Form) → 1 ≤ end_of f
+end_one f = start 1 f.widths
+  where
+    start : (at : ℕ) (ws : List ℕ) → at ≤ behind at ws
+    start at [] = omega arith
+    start at (w ∷ ws) = let h = start (at + w) ws in omega arith
+
+module _ (k n : ℕ) where
+  pub unreadable_kind : fields_end k ≡ 0 → false ≡ is_readable k n
+  unreadable_kind h = grind (arith, end_one)
+
+  pub readable_fixed : (fields_end k ≡ 0 → ⊥) → k < 10 → eqb n (fields_end k) ≡ is_readable k n
+  unfolding form_of
+  readable_fixed h l = grind arith
+
+  pub readable_followed : (fields_end k ≡ 0 → ⊥) → 10 ≤ k → leb (fields_end k) n ≡ is_readable k n
+  unfolding form_of
+  readable_followed h l = grind arith
+
+  -- a readable body has the form of its kind, and a length that fits
+  pub form_readable : (f : Form) → form_of k ≡ some f → is_readable k n ≡ true → form_for k n ≡ some f
+  form_readable f e h = grind arith
+
+  pub rest_unreadable : is_readable k n ≡ false → end_in n (form_for k n) ≡ n
+  rest_unreadable h = grind arith
+
+  pub rest_readable : is_readable k n ≡ true → (end_in n (form_for k n) ≡ fields_end k) × (fields_end k ≤ n)
+  rest_readable h = grind arith
+
+-- a kind that is none of 1 to n, as a match on it leaves it
+abbrev pub NoneTo : ℕ → ℕ → Type 0
+NoneTo k zero = Unit {0}
+NoneTo k (suc n) = NoneTo k n × (k ≡ suc n → ⊥)
+
+pub form_none : (k : ℕ) → NoneTo k 11 → form_of k ≡ none
+unfolding form_of
+form_none k h = grind arith

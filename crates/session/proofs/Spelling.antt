@@ -1,14 +1,14 @@
--- Laws of big-endian numbers, over any width: one octet more, and read and spelled there and back.
+-- Laws of big-endian numbers, over any width: one octet more, past the end, put together from two parts, and read and spelled there and back.
 -- Assumes nothing.
 use mathlib.Core.Path.{◌≡◌, refl, ◌∙◌, ap}
 use mathlib.Core.List.{List, [], ◌∷◌, ◌++◌}
 use Prim.Native.Nat.{ℕ, zero, suc, ◌+◌, ◌*◌, ◌/◌, ◌%◌, ◌^◌, ◌≤◌, ◌<◌}
-use native.Mathlib.Nat.{add-zero, pow-suc, pow-le-pow_right, div-add-mod', div-lt_iff_lt-mul}
+use native.Mathlib.Nat.{add-zero, add-suc, add_assoc, mul-one, mul_assoc, add-mul, pow-suc, pow-le-pow_right, div-add-mod', div-lt_iff_lt-mul}
 use Rattle.std.proofs.Common.{add-one}
 use native.Mathlib.Omega.{arith}
 use lib.Arith.{digits_div, digits_mod}
 use lib.Dec.{lit<}
-use lib.ListN.{length, take, drop, length-append, length-drop}
+use lib.ListN.{length, take, drop, length-append, length-drop, get_or-eq_default}
 use lib.Seq.{append_snoc, take-suc, get_or-drop, get_or-append-add, get_or_at}
 use Rattle.wire.specs.Octets.{octet_at}
 use Rattle.session.specs.Numbers.{number_at, spelled}
@@ -25,6 +25,27 @@ number_one s at = let e : octet_at s (at + 0) ≡ octet_at s at = ap (λ (k : �
 -- before its last octet a number of up to eight has room for one more in 64 bits
 pub seven_most : (i : ℕ) → i < 8 → 256 ^ i ≤ 2 ^ 56
 seven_most i few = pow-le-pow_right {n = 256} (omega arith) {i = i} {j = 7} (omega arith)
+
+pub number_past_end : (s : List ℕ) (at w : ℕ) → length s ≤ at → number_at s at w ≡ 0
+unfolding number_at
+number_past_end s at zero h = refl
+number_past_end s at (suc w) h =
+    let past : length s ≤ at + w = omega arith in
+    let e : octet_at s (at + w) ≡ 0 = get_or-eq_default s 0 past in
+    let n = number_past_end s at w h in
+    omega arith
+
+-- one octet more than two parts have: the number of both goes up by a factor of 256
+one_more : (a p b o : ℕ) → (a * p + b) * 256 + o ≡ a * (p * 256) + (b * 256 + o)
+one_more a p b o = rw (add-mul, mul_assoc, add_assoc)
+
+-- a number in two parts: the first counts 256 ^ n for n octets behind it
+pub number_joined : (s : List ℕ) (at m n : ℕ) → number_at s at (m + n) ≡ number_at s at m * 256 ^ n + number_at s (at + m) n
+unfolding number_at
+number_joined s at m zero = rw (add-zero m, mul-one, add-zero)
+number_joined s at m (suc n) =
+    rw (add-suc, pow-suc, number_joined s at m n, add_assoc at m n)
+    (one_more (number_at s at m) (256 ^ n) (number_at s (at + m) n) (octet_at s (at + (m + n))))
 
 pub length_spelled : (w n : ℕ) → length (spelled w n) ≡ w
 unfolding spelled

@@ -46,6 +46,36 @@ module _ (l : Lent) (number priority : ℕ) (place spare : Option ℕ) where
   unfolding early_number
   data_refused e says = grind arith
 
+-- number 4 comes of a lookup that finds nothing: none of 1 to 3 is it
+pub unknown_way : (l : Lent) (number priority : ℕ) (place : Option ℕ) (e : Refused) → way_says (Err e) ≡ way_for l number priority place
+    → number_of e ≡ 4 → (early_number l number priority ≡ 0) × (place ≡ None)
+unfolding early_number
+unknown_way l number priority place e says four = grind arith
+
+-- The other way round: a way that goes by the number that 1 to 3 lead to, and by the places, says what is to be said of the event.
+abbrev pub WayBy : ℕ → Option ℕ → Result ℕ Refused → Type 0
+WayBy n place (Ok i) = (n ≡ 0) × (place ≡ Some i)
+WayBy n place (Err e) = ((n ≡ number_of e) × (number_of e ≡ 0 → ⊥)) ⊎ ((n ≡ 0) × (place ≡ None) × (number_of e ≡ 4))
+
+pub way_says_law : (l : Lent) (number priority : ℕ) (place : Option ℕ) (w : Result ℕ Refused) → WayBy (early_number l number priority) place w
+    → way_says w ≡ way_for l number priority place
+unfolding early_number
+way_says_law l number priority place (Ok i) by = grind arith
+way_says_law l number priority place (Err e) by = grind arith
+
+abbrev pub DataWayBy : ℕ → Option ℕ → Option ℕ → Result DataPlace Refused → Type 0
+DataWayBy n place spare (Ok (Known i)) = (n ≡ 0) × (place ≡ Some i)
+DataWayBy n place spare (Ok (Free i)) = (n ≡ 0) × (place ≡ None) × (spare ≡ Some i)
+DataWayBy n place spare (Err e) =
+    ((n ≡ number_of e) × (number_of e ≡ 0 → ⊥)) ⊎ ((n ≡ 0) × (place ≡ None) × (spare ≡ None) × (number_of e ≡ 5))
+
+pub data_way_says_law : (l : Lent) (number priority : ℕ) (place spare : Option ℕ) (w : Result DataPlace Refused)
+    → DataWayBy (early_number l number priority) place spare w → data_way_says w ≡ data_way_for l number priority place spare
+unfolding early_number
+data_way_says_law l number priority place spare (Ok (Known i)) by = grind arith
+data_way_says_law l number priority place spare (Ok (Free i)) by = grind arith
+data_way_says_law l number priority place spare (Err e) by = grind arith
+
 -- ways that say the same are the same, so what a way says settles it
 pub one_way : (v w : Result ℕ Refused) → way_says v ≡ way_says w → v ≡ w
 one_way v w e = grind (arith, one_refused)

@@ -2,12 +2,12 @@
 use Prim.Native.Nat.{ℕ, ◌≤◌, ◌<◌}
 use mathlib.Core.Path.{◌≡◌, refl, ap, sym, ◌∙◌}
 use mathlib.Core.Logic.{⊎_elim}
-use mathlib.Core.Bool.{true, false}
+use mathlib.Core.Bool.{true, false, cond}
 use mathlib.Core.List.{List}
 use native.Mathlib.Omega.{arith}
 use borrow.Author.Tests.{leb-true}
 use lib.ListN.{length}
-use lib.Dec.{leb}
+use lib.Dec.{leb, eqb}
 use Rattle.std.specs.Prelude.{Option, Some, None, Result, Ok, Err}
 use Rattle.std.specs.Result.{IsErrAnd}
 use Rattle.std.proofs.lemmas.Result.{err_from_is_err_and}
@@ -50,19 +50,24 @@ no_zero why e = grind arith
 
 -- Only an accepted close frees a place, and it always does.
 module _ (i : ℕ) (keys : List ℕ) where
-  keys_stay : (p : Parts) (b : Buffers) (time : ℕ) (act : Act ℕ) → is_close act ≡ false → KeysAfter (rule_at p b time act).change i keys keys
+  pub keys_stay : (p : Parts) (b : Buffers) (time : ℕ) (act : Act ℕ) → is_close act ≡ false → KeysAfter (rule_at p b time act).change i keys keys
   unfolding one act_on
   keys_stay p b time act e = grind arith
 
-  keys_freed : (p : Parts) (b : Buffers) (time : ℕ) → (rule_at p b time close).answer.number ≡ 0
+  keys_cleared : (p : Parts) (b : Buffers) (time : ℕ) → (rule_at p b time close).answer.number ≡ 0
       → KeysAfter (rule_at p b time close).change i keys (keyed keys i 0 0)
   unfolding one act_on
-  keys_freed p b time accepted = grind arith
+  keys_cleared p b time accepted = grind arith
 
   keys_kept : (p : Parts) (b : Buffers) (time : ℕ) → ((rule_at p b time close).answer.number ≡ 0 → ⊥)
       → KeysAfter (rule_at p b time close).change i keys keys
   unfolding one act_on
   keys_kept p b time refused = grind arith
+
+  pub keys_freed : (p : Parts) (b : Buffers) (time : ℕ)
+      → KeysAfter (rule_at p b time close).change i keys (cond (eqb (rule_at p b time close).answer.number 0) (keyed keys i 0 0) keys)
+  unfolding one act_on
+  keys_freed p b time = grind arith
 
 -- All that a call is lent and told, but for what makes it one event and not another.
 pub record Asked : Type 0 where
@@ -98,11 +103,11 @@ module _ (c : Asked) where
   abbrev pub had : Buffers
   had = buffers c.up c.returned c.nack
 
-  abbrev lent_now : Lent
+  abbrev pub lent_now : Lent
   lent_now =
       table_lent (length c.keys) (length c.words) (length c.handles) (length c.marks) (length c.up) (length c.returned) (length c.nack)
 
-  abbrev judgement : ℕ → ℕ
+  abbrev pub judgement : ℕ → ℕ
   judgement number = early_number lent_now number c.key.priority
 
   abbrev place : Option ℕ
@@ -241,7 +246,7 @@ module _ (c : Asked) {l : Lengths} {k : StoredKey} (lengths : l ≡ lengths_of c
   closed_did keys p has given back call freed =
       let zero = (there p has (told (Ok given)) call).answer.number in
       went_did c close 0 refl i at keys p has (told (Ok given)) back call
-      (rw freed (keys_freed i c.keys (parts_at i (before c)) (had c) c.time (sym zero)))
+      (rw freed (keys_cleared i c.keys (parts_at i (before c)) (had c) c.time (sym zero)))
 
   pub close_refused_did : (p : Parts) (has : Buffers) (why : Refused) → Back c i p
       → Called close c.time (lent_parts c i) p (had c) has (told (Err why)) → (result : Result Answer Refused) → IsErrAnd result (λ d. d ≡ why)

@@ -1,7 +1,7 @@
 -- A table of zeros is the empty table: every place of it is free. Assumes nothing.
 use Prim.Native.Nat.{ℕ, zero, suc, ◌+◌, ◌-◌, ◌*◌, ◌≤◌}
 use mathlib.Core.Path.{◌≡◌, refl, ap, ◌∙◌}
-use mathlib.Core.Bool.{true}
+use mathlib.Core.Bool.{true, false}
 use mathlib.Core.List.{List, ◌∷◌}
 use native.Mathlib.Omega.{arith}
 use lib.ListN.{length, take, replicate}
@@ -11,7 +11,7 @@ use Rattle.larq.specs.Run.{empty}
 use Rattle.slots.specs.Slots.{slots, place_words}
 use Rattle.table.specs.Key.{key_words}
 use Rattle.table.specs.First.{places}
-use Rattle.table.specs.Table.{slices, part, place_of, place_at, places_from, table_of, table_keys, table_words, table_slots}
+use Rattle.table.specs.Table.{Slices, slices, part, place_of, place_at, places_from, table_of, table_keys, table_words, table_slots}
 use Rattle.table_calls.specs.Emptied.{whole_slices, all_zeros, Emptied}
 use Rattle.table.proofs.Places.{same_places}
 use Rattle.table.proofs.Stored.{zeros_free}
@@ -32,7 +32,10 @@ emptied =
     (λ i low high. ap place_of (rw (part_zeros key_words i table_keys (omega arith), part_zeros place_words i table_words (omega arith), part_zeros slots i table_slots (omega arith))) ∙ zeros_free)
     ∙ free_everywhere places 0
 
--- what `empty` leaves of the slices of a table
+-- what `empty` leaves, by whether the slices are those of a table
+pub kept : (s : Slices) → whole_slices s ≡ false → Emptied s s 1
+kept s e = record { number = rw e; table = rw e }
+
 pub cleared : (keys words handles marks k w h m : List ℕ) → whole_slices (slices keys words handles marks) ≡ true
     → k ≡ replicate (length keys) 0 → w ≡ replicate (length words) 0 → h ≡ replicate (length handles) 0 → m ≡ replicate (length marks) 0
     → Emptied (slices keys words handles marks) (slices k w h m) 0
