@@ -1,11 +1,11 @@
 // The four channel events and the look at a channel's record: each goes to the table, and its line tells the answer.
-use crate::text::List;
+use crate::text::{Line, List};
 use larq::{ROOM, Refused};
 use place::Answer;
 use ring::Seq;
 use session::{Body, Key};
-use std::alloc::AllocError;
 use std::fmt;
+use std::fmt::Write;
 use table::{KEYS_IN_ALL, SLOTS_IN_ALL, WORDS_IN_ALL};
 use table_calls::View;
 
@@ -66,7 +66,7 @@ impl Table {
         marks: [0; SLOTS_IN_ALL],
     };
 
-    pub(crate) fn answer(&mut self, line: &mut String, event: Body) -> Result<(), AllocError> {
+    pub(crate) fn answer(&mut self, line: &mut Line, event: Body) -> fmt::Result {
         match event {
             Body::Data {
                 key,
@@ -172,7 +172,7 @@ impl Table {
     }
 
     // A look at a channel's record changes nothing.
-    fn look(&self, line: &mut String, key: Key) -> Result<(), AllocError> {
+    fn look(&self, line: &mut Line, key: Key) -> fmt::Result {
         let mut waits = [0u8; ROOM];
         let mut values = [0u64; ROOM];
         let destination = session::octets(key.destination);

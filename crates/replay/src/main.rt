@@ -8,11 +8,12 @@ mod text;
 
 use capability::Station;
 use channels::Table;
-use std::alloc::{AllocError, Global};
-use std::io;
+use std::fmt::Write;
 use std::io::{ErrorKind, Read};
 use std::process::ExitCode;
+use std::{fmt, io};
 use stream::Stopped;
+use text::Line;
 
 // Why the run ends, well or not: nothing is read behind it.
 #[derive(Drop)]
@@ -23,8 +24,6 @@ enum End {
     Broken(&'static str),
     // A line could not be written.
     Unwritten(io::Error),
-    // A line had no memory to stand in.
-    NoMemory,
 }
 
 impl From<Stopped> for End {
@@ -36,9 +35,10 @@ impl From<Stopped> for End {
     }
 }
 
-impl From<AllocError> for End {
-    fn from(_error: AllocError) -> End {
-        End::NoMemory
+// A line that has no room, which no answer is too long for, is one that cannot be written.
+impl From<fmt::Error> for End {
+    fn from(_error: fmt::Error) -> End {
+        End::Unwritten(ErrorKind::WriteZero.into())
     }
 }
 
@@ -60,9 +60,9 @@ impl Replay {
     fn turn<R: Print, I: Read>(
         &mut self,
         rt: &R,
-        alloc: Global,
         input: &mut I,
         buffer: &mut [u8; BUFFER],
+        line: &mut Line,
         index: u64,
     ) -> Result<(), End> {
         let Some(count) = stream::next(input, buffer)? else {
@@ -72,12 +72,13 @@ impl Replay {
         let Some(event) = session::read(body) else {
             return Err(End::Broken("unreadable"));
         };
-        let mut line = format!(in alloc; "{index}")?;
-        self.table.answer(&mut line, event)?;
-        rates::answer(&mut line, event, session::rest(body))?;
-        self.station = stations::answer(&mut line, event, self.station)?;
-        line.push('\n')?;
-        rt.write_all(line.as_bytes())?;
+        line.begin();
+        write!(line, "{index}")?;
+        self.table.answer(line, event)?;
+        rates::answer(line, event, session::rest(body))?;
+        self.station = stations::answer(line, event, self.station)?;
+        line.write_str("\n")?;
+        rt.write_all(line.octets())?;
         Ok(())
     }
 }
@@ -86,17 +87,17 @@ impl Replay {
 const BUFFER: usize = 65536;
 
 fn main(rt: HostRuntime) -> ExitCode {
-    let alloc = rt.alloc();
     let mut input = rt.stdin();
     let mut buffer = [0u8; BUFFER];
+    let mut line = Line::EMPTY;
     let mut replay = Replay {
         table: Table::EMPTY,
         station: Station::fresh(0),
     };
     // A proved loop has to end, and nothing says that a stream does: no run uses so many entries up.
     for index in 0..u64::MAX {
-        if let Err(end) = replay.turn(&rt, alloc, &mut input, &mut buffer, index) {
-            return ended(&rt, alloc, index, end);
+        if let Err(end) = replay.turn(&rt, &mut input, &mut buffer, &mut line, index) {
+            return ended(&rt, &mut line, index, end);
         }
     }
     ExitCode::SUCCESS
@@ -104,10 +105,10 @@ fn main(rt: HostRuntime) -> ExitCode {
 
 // Says why the run ends, on standard error too where the session is not answered to its end: the program's status is the same, but where nobody reads any
 // more.
-fn ended(rt: &(impl Print + Eprint), alloc: Global, index: u64, end: End) -> ExitCode {
+fn ended(rt: &(impl Print + Eprint), line: &mut Line, index: u64, end: End) -> ExitCode {
     match end {
         End::Answered => ExitCode::SUCCESS,
-        End::Broken(why) => match last(rt, alloc, index, why) {
+        End::Broken(why) => match last(rt, line, index, why) {
             Ok(()) => tell(
                 rt,
                 "replay: the session was not answered to its end; the last line says why\n",
@@ -119,9 +120,10 @@ fn ended(rt: &(impl Print + Eprint), alloc: Global, index: u64, end: End) -> Exi
 }
 
 // The last line says why the run ends before the session does.
-fn last(rt: &impl Print, alloc: Global, index: u64, why: &str) -> Result<(), End> {
-    let line = format!(in alloc; "{index} {why}\n")?;
-    rt.write_all(line.as_bytes())?;
+fn last(rt: &impl Print, line: &mut Line, index: u64, why: &str) -> Result<(), End> {
+    line.begin();
+    write!(line, "{index} {why}\n")?;
+    rt.write_all(line.octets())?;
     Ok(())
 }
 
@@ -130,7 +132,6 @@ fn unanswered(rt: &impl Eprint, end: End) -> ExitCode {
     match end {
         End::Unwritten(e) if e.kind() == ErrorKind::BrokenPipe => unread(),
         End::Unwritten(_) => tell(rt, "replay: the answers could not be written\n"),
-        End::NoMemory => tell(rt, "replay: there is no memory for an answer\n"),
         End::Answered | End::Broken(_) => ExitCode::SUCCESS,
     }
 }

@@ -1,15 +1,16 @@
 // Rate requests: a frame that is read, and a request that is written into an output of the room that the body names.
-use crate::text::Octets;
+use crate::text::{Line, Octets};
 use rate::Request;
 use rate_reader::Reading;
 use session::Body;
-use std::alloc::AllocError;
+use std::fmt;
+use std::fmt::Write;
 
 // The longest output that a request is written into; the longest frame has 270 octets.
 const LONGEST: usize = 1600;
 
 // `rest` are the octets behind the fields of the event's body.
-pub(crate) fn answer(line: &mut String, event: Body, rest: &[u8]) -> Result<(), AllocError> {
+pub(crate) fn answer(line: &mut Line, event: Body, rest: &[u8]) -> fmt::Result {
     match event {
         Body::Read => read(line, rest),
         Body::Write { request, room } => write(line, request, room, rest),
@@ -18,7 +19,7 @@ pub(crate) fn answer(line: &mut String, event: Body, rest: &[u8]) -> Result<(), 
 }
 
 // Reads a frame; of one that is refused the line tells zeros. The addresses are the frame's own octets.
-fn read(line: &mut String, frame: &[u8]) -> Result<(), AllocError> {
+fn read(line: &mut Line, frame: &[u8]) -> fmt::Result {
     let (number, reading) = match rate_reader::read(frame) {
         Ok(reading) => (0, reading),
         Err(refused) => (refused.into(), Reading::default()),
@@ -30,7 +31,7 @@ fn read(line: &mut String, frame: &[u8]) -> Result<(), AllocError> {
 }
 
 // The chosen band and its rate are 0 where a refused frame has none.
-fn tell(line: &mut String, number: u8, reading: Reading) -> Result<(), AllocError> {
+fn tell(line: &mut Line, number: u8, reading: Reading) -> fmt::Result {
     let request = reading.request;
     write!(
         line,
@@ -54,12 +55,7 @@ fn tell(line: &mut String, number: u8, reading: Reading) -> Result<(), AllocErro
 }
 
 // Writes a request into an output of this room whose octets are all 0xff before, and tells the whole output.
-fn write(
-    line: &mut String,
-    request: session::Request,
-    room: u16,
-    addresses: &[u8],
-) -> Result<(), AllocError> {
+fn write(line: &mut Line, request: session::Request, room: u16, addresses: &[u8]) -> fmt::Result {
     let mut octets = [0xffu8; LONGEST];
     let output = &mut octets[..(room as usize).min(LONGEST)];
     let (number, count) = match rate::write(output, wanted(request), addresses) {

@@ -1,8 +1,9 @@
 // The station's events: each goes to `capability`, and its line tells what the station is to do and the sets as they then are.
+use crate::text::Line;
 use capability::{Answer, Frame, Station, Timer};
 use session::Body;
-use std::alloc::AllocError;
 use std::fmt;
+use std::fmt::Write;
 
 // The order for the timer, as a line names it.
 #[derive(Clone, Copy)]
@@ -20,10 +21,10 @@ impl fmt::Display for Ordered {
 
 // The station as the event leaves it.
 pub(crate) fn answer(
-    line: &mut String,
+    line: &mut Line,
     event: Body,
     station: Station,
-) -> Result<Station, AllocError> {
+) -> Result<Station, fmt::Error> {
     match event {
         Body::Fresh { default } => tell(line, "fresh", 0, kept(Station::fresh(default))),
         Body::Use { flags } => tell(line, "use", 0, station.use_flags(flags)),
@@ -59,7 +60,7 @@ fn kept(station: Station) -> Answer {
     }
 }
 
-fn tell(line: &mut String, event: &str, number: u8, answer: Answer) -> Result<Station, AllocError> {
+fn tell(line: &mut Line, event: &str, number: u8, answer: Answer) -> Result<Station, fmt::Error> {
     let sent = if answer.sends { "yes" } else { "no" };
     let timer = Ordered(answer.timer);
     let reported = answer.reported;
