@@ -7,7 +7,6 @@ use session::{Body, Key};
 use std::fmt;
 use std::fmt::Write;
 use table::{KEYS_IN_ALL, SLOTS_IN_ALL, WORDS_IN_ALL};
-use table_calls::View;
 
 // The lent table (docs/LAYOUT.md, 'The channel table').
 #[derive(Clone, Copy)]
@@ -43,10 +42,7 @@ struct Told {
 
 impl fmt::Display for Told {
     fn fmt<W: fmt::Write>(&self, f: &mut fmt::Formatter<W>) -> fmt::Result {
-        let (number, answer) = match self.answer {
-            Ok(answer) => (0, answer),
-            Err(refused) => (u8::from(refused), Answer::NONE),
-        };
+        let (number, answer) = place::told(self.answer);
         let up = List(&self.lists.up[..answer.up.min(ROOM)]);
         let returned = List(&self.lists.returned[..answer.returned.min(ROOM)]);
         let nack = List(&self.lists.nack[..answer.nack.min(ROOM)]);
@@ -190,10 +186,7 @@ impl Table {
             &mut waits,
             &mut values,
         );
-        let (number, view) = match result {
-            Ok(view) => (0, view),
-            Err(refused) => (u8::from(refused), NO_VIEW),
-        };
+        let (number, view) = table_calls::told(result);
         let current = view.current;
         let oldest = view.oldest;
         let latest = view.latest;
@@ -211,14 +204,6 @@ impl Table {
         write!(line, " cells={cells}")
     }
 }
-
-// What a line tells of a look that is refused: zeros.
-const NO_VIEW: View = View {
-    current: 0,
-    oldest: 0,
-    latest: 0,
-    span: 0,
-};
 
 // A cell for each number from the oldest on, with commas between; `-` where there is none. A number has its handle where it waits, and since when
 // where it is missing.

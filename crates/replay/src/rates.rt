@@ -20,10 +20,7 @@ pub(crate) fn answer(line: &mut Line, event: Body, rest: &[u8]) -> fmt::Result {
 
 // Reads a frame; of one that is refused the line tells zeros. The addresses are the frame's own octets.
 fn read(line: &mut Line, frame: &[u8]) -> fmt::Result {
-    let (number, reading) = match rate_reader::read(frame) {
-        Ok(reading) => (0, reading),
-        Err(refused) => (refused.into(), Reading::default()),
-    };
+    let (number, reading) = rate_reader::told(rate_reader::read(frame));
     let start = reading.start;
     let extent = reading.extent;
     tell(line, number, reading)?;
@@ -58,10 +55,7 @@ fn tell(line: &mut Line, number: u8, reading: Reading) -> fmt::Result {
 fn write(line: &mut Line, request: session::Request, room: u16, addresses: &[u8]) -> fmt::Result {
     let mut octets = [0xffu8; LONGEST];
     let output = &mut octets[..(room as usize).min(LONGEST)];
-    let (number, count) = match rate::write(output, wanted(request), addresses) {
-        Ok(count) => (0, count),
-        Err(refused) => (refused.into(), 0),
-    };
+    let (number, count) = rate::told(rate::write(output, wanted(request), addresses));
     write!(
         line,
         " write {number} count={count} output={}",

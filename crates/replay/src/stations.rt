@@ -26,9 +26,9 @@ pub(crate) fn answer(
     station: Station,
 ) -> Result<Station, fmt::Error> {
     match event {
-        Body::Fresh { default } => tell(line, "fresh", 0, kept(Station::fresh(default))),
-        Body::Use { flags } => tell(line, "use", 0, station.use_flags(flags)),
-        Body::Period => tell(line, "period", 0, station.end_period()),
+        Body::Fresh { default } => tell(line, "fresh", Station::ACCEPTED, fresh(default)),
+        Body::Use { flags } => tell(line, "use", Station::ACCEPTED, station.use_flags(flags)),
+        Body::Period => tell(line, "period", Station::ACCEPTED, station.end_period()),
         Body::Received {
             opcode,
             oldest,
@@ -40,17 +40,16 @@ pub(crate) fn answer(
                 current,
                 heard,
             };
-            match station.receive(opcode, frame) {
-                Ok(answer) => tell(line, "received", 0, answer),
-                Err(refused) => tell(line, "received", refused.into(), kept(station)),
-            }
+            let (number, answer) = station.told(station.receive(opcode, frame));
+            tell(line, "received", number, answer)
         }
         _ => Ok(station),
     }
 }
 
-// What is told of a station that has nothing to do: one that has just begun, and one that refuses a frame.
-fn kept(station: Station) -> Answer {
+// A station that has just begun has nothing to do.
+fn fresh(default: u32) -> Answer {
+    let station = Station::fresh(default);
     Answer {
         station,
         sends: false,
