@@ -25,48 +25,56 @@ difference_fits a b ha hb = record { sfits = by_test (ltb a b) }
     by_test true = omega arith
     by_test false = omega arith
 
--- `distance`, for n steps from a to b, which are z on an i32: by its test it gives them on the lower side, and a round less on the upper.
+-- `distance`, for n steps from a to b: what its test tells of them, and what it gives on either side, the steps on or a round less.
+module _ (a b n : ℕ) (is : n ≡ steps a b) where
+  as_read : to_z w32 n ≡ pos n
+  as_read = to_z_pos w32 n (omega arith)
+
+  module _ (bound : ℕ) where
+    same_test : ltb n bound ≡ lt_z (to_z w32 n) (pos bound)
+    same_test = sym (ap (λ (z : ℤ). lt_z z (pos bound)) as_read)
+
+    pub under : lt_z (to_z w32 n) (pos bound) ≡ true → n < bound
+    under t = ltb-true n bound (same_test ∙ t)
+
+    pub not_under : lt_z (to_z w32 n) (pos bound) ≡ false → bound ≤ n
+    not_under t = ltb-false n bound (same_test ∙ t)
+
+  pub lower_distance : n < half → to_z w32 n ≡ distance a b
+  unfolding distance
+  lower_distance h = as_read ∙ sym (lower n h) ∙ ap signed is
+
+  pub upper_fits : SFits w32 (to_z w32 n -ℤ pos size)
+  upper_fits = rw as_read (difference_fits n size (omega arith) (omega arith))
+
+  pub upper_distance : half ≤ n → to_z w32 (of_z w32 (to_z w32 n -ℤ pos size)) ≡ distance a b
+  unfolding distance
+  upper_distance h = to_z-of_z w32 (to_z w32 n -ℤ pos size) upper_fits ∙ rw as_read (sym (a_round_less n h) ∙ ap signed is)
+
+-- The same where the steps are widened to z on an i32, as the code has them: by its test it gives them on the lower side, and a round less on the upper.
 module _ (a b n : ℕ) (z : ℤ) (is : n ≡ steps a b) (widened : z ≡ pos n) where
   abbrev read : ℤ → ℤ
   read x = to_z w32 (of_z w32 x)
 
-  as_read : read z ≡ pos n
-  as_read = ap read widened ∙ to_z_pos w32 n (omega arith)
+  as_widened : read z ≡ pos n
+  as_widened = ap read widened ∙ to_z_pos w32 n (omega arith)
 
-  same_test : ltb n half ≡ lt_z (read z) (pos half)
-  same_test = sym (ap (λ (x : ℤ). lt_z x (pos half)) as_read)
+  widened_test : ltb n half ≡ lt_z (read z) (pos half)
+  widened_test = sym (ap (λ (x : ℤ). lt_z x (pos half)) as_widened)
 
-  pub lower_distance : lt_z (read z) (pos half) ≡ true → read z ≡ distance a b
+  pub lower_read : lt_z (read z) (pos half) ≡ true → read z ≡ distance a b
   unfolding distance
-  lower_distance t = as_read ∙ sym (lower n (ltb-true n half (same_test ∙ t))) ∙ ap signed is
+  lower_read t = as_widened ∙ sym (lower n (ltb-true n half (widened_test ∙ t))) ∙ ap signed is
 
   round_fits : SFits w32 (pos n -ℤ pos size)
   round_fits = difference_fits n size (omega arith) (omega arith)
 
-  pub upper_distance : (round : ℤ) → round ≡ pos size → lt_z (read z) (pos half) ≡ false → read (read z -ℤ read round) ≡ distance a b
+  pub upper_read : (round : ℤ) → round ≡ pos size → lt_z (read z) (pos half) ≡ false → read (read z -ℤ read round) ≡ distance a b
   unfolding distance
-  upper_distance round r t =
-      rw (as_read, r) (to_z-of_z w32 (pos n -ℤ pos size) round_fits)
-      ∙ sym (a_round_less n (ltb-false n half (same_test ∙ t)))
+  upper_read round r t =
+      rw (as_widened, r) (to_z-of_z w32 (pos n -ℤ pos size) round_fits)
+      ∙ sym (a_round_less n (ltb-false n half (widened_test ∙ t)))
       ∙ ap signed is
-
--- What a test of n steps from a to b on an i32 tells of them, and that a round less of them fits one.
-module _ (a b n : ℕ) (is : n ≡ steps a b) where
-  as_steps : to_z w32 n ≡ pos n
-  as_steps = to_z_pos w32 n (omega arith)
-
-  module _ (bound : ℕ) where
-    same_bound : ltb n bound ≡ lt_z (to_z w32 n) (pos bound)
-    same_bound = sym (ap (λ (z : ℤ). lt_z z (pos bound)) as_steps)
-
-    pub under : lt_z (to_z w32 n) (pos bound) ≡ true → n < bound
-    under t = ltb-true n bound (same_bound ∙ t)
-
-    pub not_under : lt_z (to_z w32 n) (pos bound) ≡ false → bound ≤ n
-    not_under t = ltb-false n bound (same_bound ∙ t)
-
-  pub upper_fits : SFits w32 (to_z w32 n -ℤ pos size)
-  upper_fits = rw as_steps (difference_fits n size (omega arith) (omega arith))
 
 -- The tests, on a signed number. (`negsuc 63` is minus 64.)
 abbrev pub within : ℤ → ℤ → ℤ → Bool
@@ -120,7 +128,7 @@ far_test (negsuc n) = by_reach (dec_lt n 64)
     by_reach (no h) = rw (back_past n (omega arith), le-ltb n 64 (omega arith)) refl
 
 -- The same tests by the order of numbers.
-far_by_order : (z : ℤ) → (lt_z z (negsuc 63) || lt_z (pos 64) z) ≡ is_far (side 64 z)
+pub far_by_order : (z : ℤ) → (lt_z z (negsuc 63) || lt_z (pos 64) z) ≡ is_far (side 64 z)
 unfolding side
 far_by_order (pos zero) = refl
 far_by_order (pos (suc n)) = by_reach (dec_lt n 64)
@@ -134,7 +142,7 @@ far_by_order (negsuc n) = by_reach (dec_lt n 64)
     by_reach (yes h) = rw (lt-ltb n 64 h, le-ltb 63 n (omega arith))
     by_reach (no h) = rw (le-ltb n 64 (omega arith), lt-ltb 63 n (omega arith))
 
-ahead_by_order : (z : ℤ) → (lt_z (pos 0) z && le_z z (pos 64)) ≡ is_ahead (side 64 z)
+pub ahead_by_order : (z : ℤ) → (lt_z (pos 0) z && le_z z (pos 64)) ≡ is_ahead (side 64 z)
 unfolding side
 ahead_by_order (pos zero) = refl
 ahead_by_order (pos (suc n)) = rw (lt-ltb 0 (suc n) (omega arith)) (by_test (ltb n 64))

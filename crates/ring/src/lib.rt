@@ -42,7 +42,7 @@ impl Seq {
     }
 
     // The distance from here to `to`: -2,048 to 2,047. From half a round on, a round is taken off.
-    #[tactic(auto, using(crate::proofs::Signed::lower_distance, crate::proofs::Signed::upper_distance))]
+    #[tactic(auto, using(crate::proofs::Signed::lower_read, crate::proofs::Signed::upper_read))]
     pub fn distance(self, to: Seq) -> Distance
         ensures { result.0 ≡ distance self.0 to.0 }
     {

@@ -71,13 +71,15 @@ requested s r ws vs p q = ap₂ (λ (r : Request) (vs : List ℕ). request_value
 
 -- When an answer says what a body says: where the body has the answer's form and the answer its values, and where the body is unreadable.
 module _ (s : List ℕ) {k : ℕ} (first : k ≡ octet_at s 0) where
+  said_by_law : {o : Option Form} → form_for k (length s) ≡ o → said s ≡ said_by s o
+  unfolding said
+  said_by_law e = ap (said_by s) (ap (λ (k : ℕ). form_for k (length s)) (sym first) ∙ e)
+
   -- the body is of kind j, whose form is f, and so is the answer
   pub reads_as : (j : ℕ) (f : Form) (r : Body) → form_of j ≡ some f → is_readable k (length s) ≡ true → k ≡ j
       → kind_of r ≡ f.kind → values_of r ≡ fields_at s 1 f.widths → Reads s (Some r)
-  unfolding said
   reads_as j f r e readable is kind values =
-      let at : form_at s ≡ some f = ap (λ (k : ℕ). form_for k (length s)) (sym first) ∙ form_readable k (length s) f (ap form_of is ∙ e) readable in
-      let so : said s ≡ said_by s (some f) = ap (said_by s) at in
+      let so = said_by_law (form_readable k (length s) f (ap form_of is ∙ e) readable) in
       record { kind = kind ∙ ap (λ (w : Saying). w.kind) (sym so); values = values ∙ ap (λ (w : Saying). w.values) (sym so) }
 
   pub reads_unreadable : is_readable k (length s) ≡ false → Reads s None

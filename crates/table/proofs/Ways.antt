@@ -9,7 +9,7 @@ use Rattle.wire.proofs.Joined.{and_left, and_right}
 use Rattle.larq.specs.Channel.{window}
 use Rattle.larq.specs.Table.{Lent, lent_enough}
 use Rattle.table.specs.Table.{whole, table_keys, table_words, table_slots}
-use Rattle.table.specs.Way.{early_number}
+use Rattle.table.specs.Way.{table_lent, early_number}
 
 pub both : (a b : Bool) → a && b ≡ true → (a ≡ true) × (b ≡ true)
 both a b e = (and_left a b e, and_right a b e)
@@ -45,3 +45,8 @@ lent_room l e = grind arith
 
 pub lent_whole : (l : Lent) → lent_enough window l ≡ true → l.whole ≡ true
 lent_whole l e = grind arith
+
+-- the keys of what is lent enough are those of a whole table
+pub keys_sized : (k w h m u r n s p : ℕ) → early_number (table_lent k w h m u r n) s p ≡ 0 → k ≡ table_keys
+keys_sized k w h m u r n s p e =
+    (whole_sizes k w h m (lent_whole (table_lent k w h m u r n) (judged_passed (table_lent k w h m u r n) s p e).lent)).keys
