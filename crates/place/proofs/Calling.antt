@@ -31,7 +31,19 @@ use Rattle.judging.proofs.Sounds.{sound_handles}
 use Rattle.record.proofs.Laying.{wrote_idle}
 use Rattle.place.proofs.Opening.{Stopped, Opened, stopped_by}
 
--- All counts are 0, and no buffer is touched.
+-- a number, and counts of 0
+abbrev pub alone : ℕ → Told
+alone n = record { number = n; up = 0; returned = 0; nack = 0; lost = 0 }
+
+-- Whatever the number, all counts are 0, and no buffer is touched.
+pub answered_alone : {n : ℕ} {change : Change ℕ} {b : Buffers} {a : Told} → a ≡ alone n
+    → Answered (record { answer = record { number = n; up = []; returned = []; nack = []; lost = 0 }; change = change }) b b a
+answered_alone is = grind arith
+
+pub did_alone : {n : ℕ} {p : Parts} {b : Buffers} {a : Told} → a ≡ alone n → DidAt (refused n) p p b b a
+did_alone is = grind arith
+
+-- The same of an answer that counts nothing.
 pub answered_none : {change : Change ℕ} {b : Buffers} {a : Answer} → Says 0 0 0 0 a
     → Answered (record { answer = record { number = 0; up = []; returned = []; nack = []; lost = 0 }; change = change }) b b (told (Ok a))
 answered_none says = grind arith

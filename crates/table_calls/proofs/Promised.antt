@@ -13,7 +13,8 @@ use Rattle.larq.specs.Refused.{number_of}
 use Rattle.larq.specs.declared.refused.Refused.{Refused}
 use Rattle.table.specs.Key.{key_words}
 use Rattle.record.proofs.Laying.{wrote_none}
-use Rattle.place.specs.Call.{Buffers, told}
+use Rattle.place.specs.Call.{Buffers, Told, told}
+use Rattle.place.proofs.Calling.{alone}
 use Rattle.table.specs.First.{places}
 use Rattle.table.specs.Table.{Slices, part, at_place, place_at, places_from, table_of, table_keys}
 use Rattle.table_calls.specs.Writes.{keyed}
@@ -21,18 +22,21 @@ use Rattle.table_calls.specs.Event.{Did}
 use Rattle.table.proofs.Places.{but, same_places}
 use Rattle.table_calls.proofs.Keyed.{keyed_else}
 
-pub refused_did : (e : Event ℕ) (s : Slices) (b : Buffers) (why : Refused) → outcome window (table_of s) e ≡ refused (number_of why)
-    → Did e s s b b (told (Err why))
+-- whatever the number of a refusal, what tells it alone, with counts of 0, is the promise of a call that changed nothing
+pub refused_alone : (e : Event ℕ) (s : Slices) (b : Buffers) (n : ℕ) (given : Told) → outcome window (table_of s) e ≡ refused n → given ≡ alone n
+    → Did e s s b b given
 unfolding step
-refused_did e s b why o =
+refused_alone e s b n given o is =
     record {
-      answer =
-          rw o
-          (record { number = refl; up = wrote_none b.up; returned = wrote_none b.returned; nack = wrote_none b.nack; lost = refl });
+      answer = rw (o, is) (record { number = refl; up = wrote_none b.up; returned = wrote_none b.returned; nack = wrote_none b.nack; lost = refl });
       stepped = rw o;
       changed = rw o refl;
       elsewhere = λ j h ne. refl;
     }
+
+pub refused_did : (e : Event ℕ) (s : Slices) (b : Buffers) (why : Refused) → outcome window (table_of s) e ≡ refused (number_of why)
+    → Did e s s b b (told (Err why))
+refused_did e s b why o = refused_alone e s b (number_of why) (told (Err why)) o refl
 
 -- the table, where only place i changed and now holds p
 pub table_but : (before after : Slices) (i : ℕ) (p : Place ℕ) → place_at after i ≡ p
