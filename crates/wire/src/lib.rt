@@ -35,12 +35,12 @@ pub fn lies_within(length: usize, start: usize, count: usize) -> bool
 pub fn six(s: &[u8], at: usize) -> [u8; 6]
     ensures { result ≡ six_at s.now at }
 {
-    let mut address = [0; 6];
-    if lies_within(s.len(), at, 6) {
-        let end = at + 6;
-        address.copy_from_slice(&s[at..end]);
+    match part(s, at, 6) {
+        [first, second, third, fourth, fifth, sixth] => {
+            [*first, *second, *third, *fourth, *fifth, *sixth]
+        }
+        _ => [0; 6],
     }
-    address
 }
 
 // The caller's own octets from a place on, or none of them where they do not lie within the slice.
