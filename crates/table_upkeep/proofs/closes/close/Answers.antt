@@ -27,12 +27,13 @@ offset_bounds-words-from c = omega (arith, going c)
 pub slice_bounds-close-end : goal.slice_bounds-close-end
 slice_bounds-close-end c = omega (arith, going c)
 
+-- by `omega`, as it is so of any slice of that length: a close that frees another one is refused by what it leaves
 pub free_key-requires : goal.free_key-requires
 free_key-requires c =
     let a = c.args in
     let t = asked a.keys.now a.words.now a.handles.now a.marks.now a.up.now a.returned.now a.nack.now (key_in a.key) a.time in
     let at = goes t close 0 refl c.of-lent.ensures c.stored.ensures _ c.in_ok-i.ensures in
-    (at.keys_sized, at.here)
+    (omega (arith, at.keys_sized), at.here)
 
 pub returns-in_err-i : goal.returns-in_err-i
 returns-in_err-i c = turned_did _ close 0 refl c.of-lent.ensures c.stored.ensures refl _ c.in_err-i.ensures _ c.from_residual.ensures.1
