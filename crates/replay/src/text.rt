@@ -77,7 +77,7 @@ impl<'a> fmt::Display for Octets<'a> {
     }
 }
 
-// A hexadecimal digit. Two of them cost a third of what `{:02x}` costs for an octet, and a line may tell 1,600.
+// A hexadecimal digit. Two of them cost a sixth of what `{:02x}` costs for an octet, and a line may tell 1,600.
 fn digit(value: u8) -> &'static str
     requires { value < 16 }
     ensures { result.now ≡ digit_glyph false value ∷ [] }
